@@ -1,1 +1,3 @@
 pub mod FirstRecord
+pub mod OneMore
+pub mod OneAnswer
