@@ -1,3 +1,4 @@
 pub mod FirstRecord
-pub mod OneMore
 pub mod OneAnswer
+pub mod OneMore
+pub mod Steps

@@ -16,11 +16,11 @@ use Rattle.model.specs.declared.refusal.Refusal.the-variants.{FileTooLong, NoSt
 use Rattle.model.specs.Rows.{Times, InLimits}
 use Rattle.flightfile.specs.declared.record.Record.{Record}
 use Rattle.flightfile.specs.declared.record.Request.{Request}
-use Rattle.flightfile.specs.Answers.{lastArrival, Unlawful, Wrong, Unstopped, Front, Answer, says, refused, Answers, OneAnswer}
+use Rattle.flightfile.specs.Answers.{lastArrival, Allowed, extend, Unlawful, Wrong, Unstopped, Front, Answer, says, refused, Answers, OneAnswer}
 use Rattle.flightfile.specs.Contents.{Content, content, rowRecord, records, bytes, RequestLawful, NotFalling, StopInRange, Lawful}
 use Rattle.flightfile.specs.Records.{Bytes, encode, Encodable, Unreadable, Begins}
 use Rattle.flightfile.proofs.FirstRecord.{begins-same, begins-readable, begins-or-not}
-use Rattle.flightfile.proofs.OneMore.{extend, Allowed, bytes-extend, last-push, lawful-extend, allowed-or-not, allowed-not-unlawful, unlawful-same}
+use Rattle.flightfile.proofs.OneMore.{bytes-extend, last-push, lawful-extend, allowed-or-not, allowed-not-unlawful, unlawful-same}
 
 -- From c, each of the records is allowed in its turn, and they lead to d.
 abbrev Goes : Content → List Record → Content → Type 0
@@ -173,7 +173,7 @@ bytes-after : (xs ys : List ℕ) → Bytes (xs ++ ys) → Bytes ys
 bytes-after [] ys h = h
 bytes-after (x ∷ xs) ys h = bytes-after xs ys (λ i. h (suc i))
 
-record-long : (x : Record) (rest : List ℕ) → length rest < length (encode x ++ rest)
+pub record-long : (x : Record) (rest : List ℕ) → length rest < length (encode x ++ rest)
 record-long (Record.Row _ _ _) rest = omega arith
 record-long (Record.Request _) rest = omega arith
 record-long (Record.Stop _) rest = omega arith

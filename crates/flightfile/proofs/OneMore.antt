@@ -17,25 +17,9 @@ use Rattle.model.specs.declared.refusal.Refusal.the-variants.{RowOutsideLimits,
 use Rattle.model.specs.Rows.{Times, times, InLimits}
 use Rattle.flightfile.specs.declared.record.Record.{Record}
 use Rattle.flightfile.specs.declared.record.Request.{Request}
-use Rattle.flightfile.specs.Answers.{lastArrival, InPlace, Unfit, Unlawful}
+use Rattle.flightfile.specs.Answers.{lastArrival, InPlace, Fit, Allowed, extend, Unfit, Unlawful}
 use Rattle.flightfile.specs.Contents.{Content, content, rowRecord, records, bytes, TicksInLimits, RequestLawful, NotFalling, StopInRange, Lawful}
 use Rattle.flightfile.specs.Records.{encode, Encodable}
-
--- The content with the record after the others.
-abbrev pub extend : Content → Record → Content
-extend c (Record.Row cost deadline period) = content (c .rows ++ times cost deadline period ∷ []) (c .requests) (c .stop)
-extend c (Record.Request q) = content (c .rows) (c .requests ++ q ∷ []) (c .stop)
-extend c (Record.Stop n) = content (c .rows) (c .requests) (Some n)
-
--- The record's own limits hold.
-abbrev pub Fit : Content → Record → Type 0
-Fit c (Record.Row cost deadline period) = (length (c .rows) < 16) × InLimits (times cost deadline period)
-Fit c (Record.Request q) = TicksInLimits q
-Fit c (Record.Stop n) = StopInRange n
-
-pub record Allowed (c : Content) (x : Record) : Type 0 where
-  pub placed : InPlace c x
-  pub fit : Fit c x
 
 joined-append : (xs ys : List Record) → joined encode (xs ++ ys) ≡ joined encode xs ++ joined encode ys
 joined-append [] ys = refl

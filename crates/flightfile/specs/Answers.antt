@@ -8,10 +8,10 @@ use Rattle.std.specs.declared.option.Option.the-variants.{Some, None}
 use Rattle.model.specs.declared.refusal.Refusal.{Refusal}
 use Rattle.model.specs.declared.refusal.Refusal.the-variants.{TicksOutsideRange, RequestOutsideLimits, FileTooLong, RecordOutOfPlace, NoStopRecord}
 use Rattle.model.specs.Drafts.{Unaddable}
-use Rattle.model.specs.Rows.{times}
+use Rattle.model.specs.Rows.{times, InLimits}
 use Rattle.flightfile.specs.declared.record.Record.{Record}
 use Rattle.flightfile.specs.declared.record.Request.{Request}
-use Rattle.flightfile.specs.Contents.{Content, bytes, TicksInLimits, StopInRange, Lawful}
+use Rattle.flightfile.specs.Contents.{Content, content, bytes, TicksInLimits, StopInRange, Lawful}
 use Rattle.flightfile.specs.Records.{Bytes, Unreadable, Begins}
 
 -- The arrival of the last request, or a if there is none.
@@ -25,6 +25,24 @@ abbrev pub InPlace : Content → Record → Type 0
 InPlace c (Record.Row _ _ _) = (c .requests ≡ []) × (c .stop ≡ None)
 InPlace c (Record.Request q) = (lastArrival 0 (c .requests) ≤ q .arrival) × (c .stop ≡ None)
 InPlace c (Record.Stop _) = c .stop ≡ None
+
+-- A record in its place is within its own limits: a row that a draft of the rows so far takes, a
+-- request of 1 to 60,000 ticks, a stop in its range.
+abbrev pub Fit : Content → Record → Type 0
+Fit c (Record.Row cost deadline period) = (length (c .rows) < 16) × InLimits (times cost deadline period)
+Fit c (Record.Request q) = TicksInLimits q
+Fit c (Record.Stop n) = StopInRange n
+
+-- The record may follow these.
+pub record Allowed (c : Content) (x : Record) : Type 0 where
+  pub placed : InPlace c x
+  pub fit : Fit c x
+
+-- These records and then that one.
+abbrev pub extend : Content → Record → Content
+extend c (Record.Row cost deadline period) = content (c .rows ++ times cost deadline period ∷ []) (c .requests) (c .stop)
+extend c (Record.Request q) = content (c .rows) (c .requests ++ q ∷ []) (c .stop)
+extend c (Record.Stop n) = content (c .rows) (c .requests) (Some n)
 
 -- What a record in its place is refused with for its own sake.
 abbrev pub Unfit : Content → Record → Refusal → Type 0

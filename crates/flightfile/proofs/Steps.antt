@@ -1,0 +1,94 @@
+-- One step of the reader: a record taken in makes the run seen longer, and what is wrong with one is the answer.
+use mathlib.Core.List.{List, [], _∷_, _++_, append-assoc}
+use mathlib.Core.Logic.{_⊎_, inl, inr}
+use mathlib.Core.Path.{_≡_, refl, sym, ap, subst, _∙_}
+use Prim.Native.Nat.{ℕ, _+_, _-_, _<_, _≤_}
+use native.Mathlib.Omega.{arith}
+use denote.Ref.{RefT}
+use lib.ListN.{length, drop, length-append}
+use Rattle.std.proofs.shelf.Lists.{drop-at}
+use Rattle.std.specs.declared.result.Result.{Result}
+use Rattle.std.specs.declared.result.Result.the-variants.{Ok, Err}
+use Rattle.std.specs.Of.Vec.{vec-items}
+use Rattle.model.specs.declared.refusal.PlacedRefusal.{PlacedRefusal}
+use Rattle.model.specs.declared.refusal.Refusal.{Refusal}
+use Rattle.flightfile.specs.declared.reading.ReadError.{ReadError}
+use Rattle.flightfile.specs.declared.reader.Reader.{Reader}
+use Rattle.flightfile.specs.declared.record.Record.{Record}
+use Rattle.flightfile.specs.Answers.{Allowed, extend, Front}
+use Rattle.flightfile.specs.Contents.{Content, bytes, Lawful}
+use Rattle.flightfile.specs.Reading.{at, placedAt, seen, ahead, Reached, WantsMemory, Sofar, Taken, Admitted, Stepped, Reads}
+use Rattle.flightfile.specs.Records.{encode, Unreadable, Begins, Split}
+use Rattle.flightfile.proofs.OneAnswer.{record-long}
+use Rattle.flightfile.proofs.OneMore.{bytes-extend, lawful-extend}
+
+-- A longer run at the front.
+module _ (bs : List ℕ) (run : Content) (place : ℕ) (old : List ℕ) (x : Record) (rest : List ℕ) (h : Front bs run place old) (b : Begins old x rest) (a : Allowed run x) where
+  whole : bs ≡ bytes (extend run x) ++ rest
+  whole =
+      h .split
+      ∙ ap (λ l. bytes run ++ l) (b .split)
+      ∙ sym (append-assoc (bytes run) (encode x) rest)
+      ∙ ap (λ l. l ++ rest) (sym (bytes-extend run x (a .placed)))
+
+  longer : length bs ≡ length (bytes (extend run x)) + length rest
+  longer = ap length whole ∙ length-append (bytes (extend run x)) rest
+
+  pub next-front : (n : ℕ) → n ≡ length bs - length rest → Front bs (extend run x) n (drop n bs)
+  next-front n e =
+      let l = longer in
+      let m : length (bytes (extend run x)) ≡ n = omega arith in
+      record {
+        lawful = lawful-extend run x (h .lawful) (b .encodable) a;
+        split = whole ∙ ap (λ r. bytes (extend run x) ++ r) (sym (ap (drop n) whole ∙ drop-at (bytes (extend run x)) rest n m));
+        ends = sym m;
+      }
+
+  pub place-grows : place < length bs - length rest
+  place-grows =
+      omega (arith, longer, h .ends, ap length (bytes-extend run x (a .placed)) ∙ length-append (bytes run) (encode x), length-append (encode x) rest, record-long x rest)
+
+abbrev moved : Reader → ℕ → Reader
+moved r n = record { input = r .input; place = n; phase = r .phase; rows = r .rows; requests = r .requests }
+
+pub stepped : (old mid : Reader) (x : Record) (rest : List ℕ) → Sofar old → Begins (ahead old) x rest → Taken old x mid → Sofar (moved mid (length (old .input .now) - length rest)) × (mid .input .now ≡ old .input .now) × (old .place < length (old .input .now) - length rest)
+stepped old mid x rest h b t =
+    let bs = old .input .now in
+    let n : ℕ = length bs - length rest in
+    let front = next-front bs (seen old) (old .place) (ahead old) x rest (h .front) b (t .allowed) n refl in
+    (
+      record {
+        short = omega (arith, ap length (t .input), h .short);
+        inside = omega (arith, ap length (t .input));
+        front = subst (λ l. Front l (seen mid) n (drop n l)) (sym (t .input)) (subst (λ c. Front bs c n (drop n bs)) (sym (t .seen-more)) front);
+        phase = t .phase;
+      },
+      t .input,
+      place-grows bs (seen old) (old .place) (ahead old) x rest (h .front) b (t .allowed),
+    )
+
+-- A record that is not taken in is what the answer says.
+pub not-admitted : (old new : Reader) (x : Record) (rest : List ℕ) (e : ReadError) → Sofar old → Begins (ahead old) x rest → Admitted old x (Err e) new → Stepped old (Err e) new
+not-admitted old new x rest (ReadError.Refused p) h b u = (inr (x, rest, b, u .0), u .1)
+not-admitted old new x rest ReadError.NoMemory h b u =
+    let n : ℕ = length (old .input .now) - length rest in
+    (extend (seen old) x, n, _, next-front (old .input .now) (seen old) (old .place) (ahead old) x rest (h .front) b (u .0) n refl, u .1)
+
+abbrev Halves : Type 0
+Halves = Record × RefT (List ℕ)
+
+pub placed-ok : (bs : List ℕ) (r : Result Halves Refusal) (n : ℕ) (v : Halves) → Ok v ≡ placedAt r n → Split bs r → Begins bs (v .0) (v .1 .now)
+placed-ok bs (Ok u) n v e s = let same : u ≡ v = cc in subst (λ (w : Halves). Begins bs (w .0) (w .1 .now)) same s
+placed-ok bs (Err d) n v e s = let z : _≡_ {A = ℕ} 0 1 = cc in absurd (omega arith)
+
+pub placed-err : (bs : List ℕ) (r : Result Halves Refusal) (n : ℕ) (p : PlacedRefusal) → Err p ≡ placedAt r n → Split bs r → Unreadable bs (p .refusal) × (p .place ≡ n)
+placed-err bs (Ok u) n p e s = let z : _≡_ {A = ℕ} 0 1 = cc in absurd (omega arith)
+placed-err bs (Err d) n p e s =
+    let same : at d n ≡ p = cc in
+    (subst (λ (q : PlacedRefusal). Unreadable bs (q .refusal)) same s, sym (ap (λ (q : PlacedRefusal). q .place) same))
+
+-- What a step says is wrong is the answer to the whole input.
+pub step-answers : (old new : Reader) (e : ReadError) → Sofar old → Stepped old (Err e) new → Reads (old .input .now) (Err e)
+step-answers old new (ReadError.Refused p) h w =
+    inr (h .short, (seen old, ahead old, subst (λ n. Front (old .input .now) (seen old) n (ahead old)) (sym (w .1)) (h .front), inl (w .0)))
+step-answers old new ReadError.NoMemory h w = w

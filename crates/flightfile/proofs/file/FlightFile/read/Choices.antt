@@ -1,0 +1,11 @@
+use Prim.Native.Nat.{_-_}
+use mathlib.Core.Path.{_≡_}
+use lib.ListN.{length}
+use Rattle.flightfile.specs.Reading.{Sofar}
+use Rattle.flightfile.proofs.file.FlightFile.read.Given as given
+
+abbrev pub Inv-loop-reader : given.InvT-loop-reader
+Inv-loop-reader l = Sofar (l .reader) × (l .reader .input .now ≡ l .input)
+
+abbrev pub μ-loop-reader : given.MeasureT-loop-reader
+μ-loop-reader l = length (l .input) - l .reader .place

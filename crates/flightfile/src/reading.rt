@@ -1,0 +1,58 @@
+// Reading a flight file.
+ghost use Rattle.flightfile.specs.Answers.{OneAnswer};
+ghost use Rattle.flightfile.specs.Reading.{Reads};
+ghost use Rattle.flightfile.specs.declared.reading.ReadError.the-variants.{Refused as Rejected, NoMemory};
+ghost use mathlib.Core.Path.{_≡_};
+use crate::file::FlightFile;
+use crate::reader::Phase;
+use crate::reader::Reader;
+use model::draft::Draft;
+use model::refusal::PlacedRefusal;
+use model::refusal::Refusal;
+use std::alloc::Global;
+use std::alloc::Refused;
+use model::refusal::PlacedRefusalDebug;
+use model::refusal::PlacedRefusalPartialEq;
+
+// The longest flight file, in bytes.
+const MOST_BYTES: usize = 65_536;
+
+// Why there is no content: the file is refused, or there was no memory for its requests.
+#[derive(Clone, Copy, Debug, PartialEq, Eq)]
+pub enum ReadError {
+    Refused(PlacedRefusal),
+    NoMemory,
+}
+
+pub impl From<PlacedRefusal> for ReadError as ReadErrorFromRefusal {
+    ghost converts = { λ e r. r ≡ Rejected e };
+
+    fn from(e: PlacedRefusal) -> ReadError {
+        ReadError::Refused(e)
+    }
+}
+
+pub impl<T: Drop> From<Refused<T>> for ReadError as ReadErrorFromRefused {
+    ghost converts = { λ _ r. r ≡ NoMemory };
+
+    fn from(_e: Refused<T>) -> ReadError {
+        ReadError::NoMemory
+    }
+}
+
+impl FlightFile {
+    // The content of the file, or the first thing that is wrong with it and where.
+    pub fn read(heap: Global, input: &[u8]) -> Result<FlightFile, ReadError>
+        ensures answer { λ r. ⌜ Reads (now (input .entry)) r ⌝ }
+        ensures one { λ _. ⌜ OneAnswer ⌝ }
+    {
+        if input.len() > MOST_BYTES {
+            return Err(ReadError::Refused(PlacedRefusal { refusal: Refusal::FileTooLong, place: 0 }));
+        }
+        let mut reader = Reader { input, place: 0, phase: Phase::Rows, rows: Draft::new(), requests: Vec::new(heap) };
+        while reader.place < input.len() {
+            reader.step()?;
+        }
+        reader.finish()
+    }
+}
