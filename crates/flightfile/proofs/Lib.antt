@@ -1,4 +1,6 @@
+pub mod AllRecords
 pub mod FirstRecord
 pub mod OneAnswer
 pub mod OneMore
+pub mod Overwrites
 pub mod Steps

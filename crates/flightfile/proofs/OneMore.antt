@@ -21,11 +21,11 @@ use Rattle.flightfile.specs.Answers.{lastArrival, InPlace, Fit, Allowed, exten
 use Rattle.flightfile.specs.Contents.{Content, content, rowRecord, records, bytes, TicksInLimits, RequestLawful, NotFalling, StopInRange, Lawful}
 use Rattle.flightfile.specs.Records.{encode, Encodable}
 
-joined-append : (xs ys : List Record) → joined encode (xs ++ ys) ≡ joined encode xs ++ joined encode ys
+pub joined-append : (xs ys : List Record) → joined encode (xs ++ ys) ≡ joined encode xs ++ joined encode ys
 joined-append [] ys = refl
 joined-append (x ∷ xs) ys = ap (λ l. encode x ++ l) (joined-append xs ys) ∙ sym (append-assoc (encode x) (joined encode xs) (joined encode ys))
 
-joined-push : (xs : List Record) (x : Record) → joined encode (xs ++ x ∷ []) ≡ joined encode xs ++ encode x
+pub joined-push : (xs : List Record) (x : Record) → joined encode (xs ++ x ∷ []) ≡ joined encode xs ++ encode x
 joined-push xs x = joined-append xs (x ∷ []) ∙ ap (λ l. joined encode xs ++ l) (append-nil (encode x))
 
 records-extend : (c : Content) (x : Record) → InPlace c x → records (extend c x) ≡ records c ++ x ∷ []

@@ -2,3 +2,4 @@ pub mod Answers
 pub mod Contents
 pub mod Reading
 pub mod Records
+pub mod Writing

@@ -3,6 +3,7 @@ pub mod file;
 mod reader;
 pub mod reading;
 pub mod record;
+pub mod writing;
 
 pub use file::FlightFile;
 pub use reading::ReadError;

@@ -5,9 +5,9 @@ ghost use Rattle.flightfile.specs.Records.{Split};
 use model::refusal::Refusal;
 
 // The kind bytes: the letters R, Q and S.
-const ROW: u8 = 0x52;
-const REQUEST: u8 = 0x51;
-const STOP: u8 = 0x53;
+pub(crate) const ROW: u8 = 0x52;
+pub(crate) const REQUEST: u8 = 0x51;
+pub(crate) const STOP: u8 = 0x53;
 
 // A single request as the file has it: so many ticks of work, handed in at the tick `arrival`.
 #[derive(Clone, Copy, Debug, PartialEq, Eq)]

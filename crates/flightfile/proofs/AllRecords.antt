@@ -1,0 +1,73 @@
+-- The bytes of many records in turn: one more, how many at most, and how many in all.
+use mathlib.Core.List.{List, [], _∷_, _++_, map}
+use mathlib.Core.Path.{_≡_, refl, sym, ap, _∙_}
+use Prim.Native.Nat.{ℕ, _+_, _*_, _<_, _≤_}
+use native.Mathlib.Omega.{arith}
+use lib.ListN.{length, getD, take, drop, length-append, take-append-drop}
+use Rattle.std.proofs.shelf.Lists.{map-append, map-more, length-map}
+use Rattle.std.specs.declared.option.Option.the-variants.{Some}
+use Rattle.std.specs.Of.Vec.{vec-items}
+use Rattle.std.specs.shelf.Lists.{joined}
+use Rattle.model.specs.Drafts.{rowsOf}
+use Rattle.model.specs.declared.row.Row.{Row}
+use Rattle.model.specs.Rows.{Times, timesOf}
+use Rattle.flightfile.specs.declared.file.FlightFile.{FlightFile}
+use Rattle.flightfile.specs.declared.record.Record.{Record}
+use Rattle.flightfile.specs.declared.record.Request.{Request}
+use Rattle.flightfile.specs.Contents.{content, rowRecord, bytes}
+use Rattle.flightfile.specs.Reading.{contentOf}
+use Rattle.flightfile.specs.Records.{encode}
+use Rattle.flightfile.proofs.OneMore.{joined-append, joined-push}
+
+abbrev pub encodeAll : {X : Type 0} → (X → Record) → List X → List ℕ
+encodeAll f xs = joined encode (map f xs)
+
+module _ {X : Type 0} (f : X → Record) where
+  encode-more : (xs : List X) (i : ℕ) (d : X) → i < length xs → encodeAll f (take (i + 1) xs) ≡ encodeAll f (take i xs) ++ encode (f (getD xs i d))
+  encode-more xs i d h = ap (joined encode) (map-more f xs i d h) ∙ joined-push (map f (take i xs)) (f (getD xs i d))
+
+  -- The step of a loop over xs that has come to x, whose record is r.
+  pub encode-next : (xs : List X) (i : ℕ) (x : X) (r : Record) → i < length xs → x ≡ getD xs i x → r ≡ f x → encodeAll f (take (i + 1) xs) ≡ encodeAll f (take i xs) ++ encode r
+  encode-next xs i x r h is e = encode-more xs i x h ∙ ap (λ y. encodeAll f (take i xs) ++ encode y) (ap f (sym is) ∙ sym e)
+
+  encode-parts : (xs ys : List X) → encodeAll f (xs ++ ys) ≡ encodeAll f xs ++ encodeAll f ys
+  encode-parts xs ys = ap (joined encode) (map-append f xs ys) ∙ joined-append (map f xs) (map f ys)
+
+  pub encode-front : (n : ℕ) (xs : List X) → length (encodeAll f (take n xs)) ≤ length (encodeAll f xs)
+  encode-front n xs =
+      omega (arith, ap (λ l. length (encodeAll f l)) (take-append-drop n xs), ap length (encode-parts (take n xs) (drop n xs)), length-append (encodeAll f (take n xs)) (encodeAll f (drop n xs)))
+
+-- Through the rows of the program to their numbers.
+pub encode-rows : (rs : List Row) → encodeAll (λ r. rowRecord (timesOf r)) rs ≡ encodeAll rowRecord (map timesOf rs)
+encode-rows [] = refl
+encode-rows (r ∷ rs) = ap (λ l. encode (rowRecord (timesOf r)) ++ l) (encode-rows rs)
+
+rows-long : (ts : List Times) → length (encodeAll rowRecord ts) ≡ 7 * length ts
+rows-long [] = refl
+rows-long (t ∷ ts) = omega (arith, rows-long ts)
+
+requests-long : (qs : List Request) → length (encodeAll Record.Request qs) ≡ 9 * length qs
+requests-long [] = refl
+requests-long (q ∷ qs) = omega (arith, requests-long qs)
+
+-- The bytes of a whole content: its rows', its requests' and its stop's.
+pub bytes-parts : (ts : List Times) (qs : List Request) (n : ℕ) → bytes (content ts qs (Some n)) ≡ encodeAll rowRecord ts ++ (encodeAll Record.Request qs ++ encode (Record.Stop n))
+bytes-parts ts qs n = joined-append (map rowRecord ts) _ ∙ ap (λ l. encodeAll rowRecord ts ++ l) (joined-append (map Record.Request qs) _)
+
+pub bytes-long : (ts : List Times) (qs : List Request) (n : ℕ) → length (bytes (content ts qs (Some n))) ≡ 7 * length ts + 9 * length qs + 5
+bytes-long ts qs n =
+    omega (arith, ap length (bytes-parts ts qs n), length-append (encodeAll rowRecord ts) (encodeAll Record.Request qs ++ encode (Record.Stop n)), length-append (encodeAll Record.Request qs) (encode (Record.Stop n)), rows-long ts, requests-long qs)
+
+-- The bytes of a flight file as its rows, its requests and its stop are written.
+module _ (f : FlightFile) (rs : List Row) (same : map timesOf rs ≡ rowsOf (f .rows)) where
+  pub file-parts : (qs : List Request) → qs ≡ vec-items (f .requests) → bytes (contentOf f) ≡ encodeAll (λ r. rowRecord (timesOf r)) rs ++ (encodeAll Record.Request qs ++ encode (Record.Stop (f .stop)))
+  file-parts qs e =
+      bytes-parts (rowsOf (f .rows)) (vec-items (f .requests)) (f .stop)
+      ∙ ap (λ l. l ++ (encodeAll Record.Request (vec-items (f .requests)) ++ encode (Record.Stop (f .stop)))) (sym (encode-rows rs ∙ ap (encodeAll rowRecord) same))
+      ∙ ap (λ l. encodeAll (λ r. rowRecord (timesOf r)) rs ++ (encodeAll Record.Request l ++ encode (Record.Stop (f .stop)))) (sym e)
+
+  pub file-long : (qs : List Request) → qs ≡ vec-items (f .requests) → length (encodeAll (λ r. rowRecord (timesOf r)) rs) + length (encodeAll Record.Request qs) + 5 ≡ length (bytes (contentOf f))
+  file-long qs e =
+      let a : List ℕ = encodeAll (λ r. rowRecord (timesOf r)) rs in
+      let b : List ℕ = encodeAll Record.Request qs in
+      omega (arith, ap length (file-parts qs e), length-append a (b ++ encode (Record.Stop (f .stop))), length-append b (encode (Record.Stop (f .stop))))

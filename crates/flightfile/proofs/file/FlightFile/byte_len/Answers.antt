@@ -1,0 +1,32 @@
+use mathlib.Core.List.{map}
+use mathlib.Core.Path.{_≡_, sym, ap, _∙_}
+use Prim.Native.Nat.{_+_, _*_}
+use native.Mathlib.Omega.{arith}
+use lib.ListN.{length}
+use Rattle.std.proofs.shelf.Lists.{length-map}
+use Rattle.std.specs.Of.Vec.{vec-items}
+use Rattle.model.specs.Drafts.{rowsOf}
+use Rattle.model.specs.Rows.{timesOf}
+use Rattle.flightfile.specs.Contents.{bytes}
+use Rattle.flightfile.specs.Reading.{contentOf}
+use Rattle.flightfile.proofs.AllRecords.{bytes-long}
+use Rattle.flightfile.proofs.file.FlightFile.byte_len.Needs as need
+use Rattle.flightfile.proofs.file.FlightFile.byte_len.Needs.{After-len}
+
+long : (c : After-len) → 7 * length (c .rows .result .now) + 9 * c .len .result + 5 ≡ length (bytes (contentOf (c .args .self .now)))
+long c =
+    let f = c .args .self .now in
+    let rows = sym (length-map (c .rows .result .now) timesOf) ∙ ap length (c .rows .ensures) in
+    omega (arith, bytes-long (rowsOf (f .rows)) (vec-items (f .requests)) (f .stop), rows, c .len .ensures, f .requests .ok .0)
+
+pub mul-result-2 : need.mul-result-2
+mul-result-2 c = record { fits = omega (arith, long c, c .args .self .now .short) }
+
+pub add-result : need.add-result
+add-result c = record { fits = omega (arith, long c, c .args .self .now .short) }
+
+pub add-result-2 : need.add-result-2
+add-result-2 c = record { fits = omega (arith, long c, c .args .self .now .short) }
+
+pub returns : need.returns
+returns c = long c
