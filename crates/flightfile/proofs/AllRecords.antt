@@ -1,22 +1,28 @@
 -- The bytes of many records in turn: one more, how many at most, and how many in all.
 use mathlib.Core.List.{List, [], _∷_, _++_, map}
+use mathlib.Core.Logic.{∥∥₁-map}
 use mathlib.Core.Path.{_≡_, refl, sym, ap, _∙_}
 use Prim.Native.Nat.{ℕ, _+_, _*_, _<_, _≤_}
 use native.Mathlib.Omega.{arith}
 use lib.ListN.{length, getD, take, drop, length-append, take-append-drop}
-use Rattle.std.proofs.shelf.Lists.{map-append, map-more, length-map}
+use Rattle.std.proofs.shelf.Lists.{map-append, map-more, take-at}
 use Rattle.std.specs.declared.option.Option.the-variants.{Some}
+use Rattle.std.specs.declared.result.Result.{Result}
+use Rattle.std.specs.declared.result.Result.the-variants.{Ok, Err}
 use Rattle.std.specs.Of.Vec.{vec-items}
 use Rattle.std.specs.shelf.Lists.{joined}
 use Rattle.model.specs.Drafts.{rowsOf}
+use Rattle.model.specs.declared.refusal.Refusal.{Refusal}
 use Rattle.model.specs.declared.row.Row.{Row}
 use Rattle.model.specs.Rows.{Times, timesOf}
 use Rattle.flightfile.specs.declared.file.FlightFile.{FlightFile}
 use Rattle.flightfile.specs.declared.record.Record.{Record}
 use Rattle.flightfile.specs.declared.record.Request.{Request}
-use Rattle.flightfile.specs.Contents.{content, rowRecord, bytes}
+use Rattle.flightfile.specs.Answers.{Says}
+use Rattle.flightfile.specs.Contents.{Content, content, rowRecord, bytes}
 use Rattle.flightfile.specs.Reading.{contentOf}
 use Rattle.flightfile.specs.Records.{encode}
+use Rattle.flightfile.specs.Writing.{Written, WrittenBack}
 use Rattle.flightfile.proofs.OneMore.{joined-append, joined-push}
 
 abbrev pub encodeAll : {X : Type 0} → (X → Record) → List X → List ℕ
@@ -71,3 +77,11 @@ module _ (f : FlightFile) (rs : List Row) (same : map timesOf rs ≡ rowsOf (f .
       let a : List ℕ = encodeAll (λ r. rowRecord (timesOf r)) rs in
       let b : List ℕ = encodeAll Record.Request qs in
       omega (arith, ap length (file-parts qs e), length-append a (b ++ encode (Record.Stop (f .stop))), length-append b (encode (Record.Stop (f .stop))))
+
+-- What was written of the content of a file is that file.
+pub written-back : (c : Content) (old : List ℕ) (r : Result ℕ Refusal) (new : List ℕ) → Written (bytes c) old r new → WrittenBack c r new
+written-back c old (Ok n) new w file s = (w .1 ∙ ap length (sym (s .3)), ap (take n) (w .2) ∙ take-at (bytes c) _ n (sym (w .1)) ∙ sym (s .3))
+written-back c old (Err e) new w file s = tt
+
+pub file-says : (f : FlightFile) → ∥ Says (bytes (contentOf f)) (contentOf f) ∥₁
+file-says f = ∥∥₁-map (f .lawful) (λ h. (f .short, h, (f .stop, refl), refl))

@@ -3,12 +3,13 @@ ghost use mathlib.Core.List.{map};
 ghost use mathlib.Core.Path.{_≡_};
 ghost use lib.ListN.{length};
 ghost use Prim.Native.Nat.{_+_, _≤_};
+ghost use Rattle.flightfile.specs.Answers.{Says};
 ghost use Rattle.flightfile.specs.Contents.{bytes, rowRecord};
 ghost use Rattle.flightfile.specs.declared.record.Record.{Record as Meaning};
 ghost use Rattle.flightfile.specs.declared.record.Record.the-variants.{Request as asked};
 ghost use Rattle.flightfile.specs.Reading.{contentOf};
 ghost use Rattle.flightfile.specs.Records.{encode};
-ghost use Rattle.flightfile.specs.Writing.{overwrite, Written};
+ghost use Rattle.flightfile.specs.Writing.{overwrite, Written, WrittenBack};
 ghost use Rattle.model.specs.Rows.{timesOf};
 ghost use Rattle.std.specs.shelf.Lists.{joined};
 use crate::file::FlightFile;
@@ -112,7 +113,9 @@ impl FlightFile {
 
     // Writes the file into the front of `out`, and answers how many bytes it has; or refuses with 17.
     pub fn write(&self, out: &mut [u8]) -> Result<usize, Refusal>
-        ensures { λ r. ⌜ Written (bytes (contentOf (now (self .entry)))) (now (out .entry)) r (now (out .exit)) ⌝ }
+        ensures wrote { λ r. ⌜ Written (bytes (contentOf (now (self .entry)))) (now (out .entry)) r (now (out .exit)) ⌝ }
+        ensures back { λ r. ⌜ WrittenBack (contentOf (now (self .entry))) r (now (out .exit)) ⌝ }
+        ensures readable { λ _. ⌜ ∥ Says (bytes (contentOf (now (self .entry)))) (contentOf (now (self .entry))) ∥₁ ⌝ }
     {
         if out.len() < self.byte_len() {
             return Err(Refusal::OutputTooShort);
