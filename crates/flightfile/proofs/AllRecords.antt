@@ -23,30 +23,25 @@ use Rattle.flightfile.specs.Contents.{Content, content, rowRecord, bytes}
 use Rattle.flightfile.specs.Reading.{contentOf}
 use Rattle.flightfile.specs.Records.{encode}
 use Rattle.flightfile.specs.Writing.{Written, WrittenBack}
-use Rattle.flightfile.proofs.OneMore.{joined-append, joined-push}
+use Rattle.flightfile.proofs.Joined.{joined-append, joined-push, map-map}
 
 abbrev pub encodeAll : {X : Type 0} → (X → Record) → List X → List ℕ
 encodeAll f xs = joined encode (map f xs)
 
 module _ {X : Type 0} (f : X → Record) where
   encode-more : (xs : List X) (i : ℕ) (d : X) → i < length xs → encodeAll f (take (i + 1) xs) ≡ encodeAll f (take i xs) ++ encode (f (getD xs i d))
-  encode-more xs i d h = ap (joined encode) (map-more f xs i d h) ∙ joined-push (map f (take i xs)) (f (getD xs i d))
+  encode-more xs i d h = ap (joined encode) (map-more f xs i d h) ∙ joined-push encode (map f (take i xs)) (f (getD xs i d))
 
   -- The step of a loop over xs that has come to x, whose record is r.
   pub encode-next : (xs : List X) (i : ℕ) (x : X) (r : Record) → i < length xs → x ≡ getD xs i x → r ≡ f x → encodeAll f (take (i + 1) xs) ≡ encodeAll f (take i xs) ++ encode r
   encode-next xs i x r h is e = encode-more xs i x h ∙ ap (λ y. encodeAll f (take i xs) ++ encode y) (ap f (sym is) ∙ sym e)
 
   encode-parts : (xs ys : List X) → encodeAll f (xs ++ ys) ≡ encodeAll f xs ++ encodeAll f ys
-  encode-parts xs ys = ap (joined encode) (map-append f xs ys) ∙ joined-append (map f xs) (map f ys)
+  encode-parts xs ys = ap (joined encode) (map-append f xs ys) ∙ joined-append encode (map f xs) (map f ys)
 
   pub encode-front : (n : ℕ) (xs : List X) → length (encodeAll f (take n xs)) ≤ length (encodeAll f xs)
   encode-front n xs =
       omega (arith, ap (λ l. length (encodeAll f l)) (take-append-drop n xs), ap length (encode-parts (take n xs) (drop n xs)), length-append (encodeAll f (take n xs)) (encodeAll f (drop n xs)))
-
--- Through the rows of the program to their numbers.
-pub encode-rows : (rs : List Row) → encodeAll (λ r. rowRecord (timesOf r)) rs ≡ encodeAll rowRecord (map timesOf rs)
-encode-rows [] = refl
-encode-rows (r ∷ rs) = ap (λ l. encode (rowRecord (timesOf r)) ++ l) (encode-rows rs)
 
 rows-long : (ts : List Times) → length (encodeAll rowRecord ts) ≡ 7 * length ts
 rows-long [] = refl
@@ -58,7 +53,7 @@ requests-long (q ∷ qs) = omega (arith, requests-long qs)
 
 -- The bytes of a whole content: its rows', its requests' and its stop's.
 pub bytes-parts : (ts : List Times) (qs : List Request) (n : ℕ) → bytes (content ts qs (Some n)) ≡ encodeAll rowRecord ts ++ (encodeAll Record.Request qs ++ encode (Record.Stop n))
-bytes-parts ts qs n = joined-append (map rowRecord ts) _ ∙ ap (λ l. encodeAll rowRecord ts ++ l) (joined-append (map Record.Request qs) _)
+bytes-parts ts qs n = joined-append encode (map rowRecord ts) _ ∙ ap (λ l. encodeAll rowRecord ts ++ l) (joined-append encode (map Record.Request qs) _)
 
 pub bytes-long : (ts : List Times) (qs : List Request) (n : ℕ) → length (bytes (content ts qs (Some n))) ≡ 7 * length ts + 9 * length qs + 5
 bytes-long ts qs n =
@@ -69,7 +64,7 @@ module _ (f : FlightFile) (rs : List Row) (same : map timesOf rs ≡ rowsOf (f .
   pub file-parts : (qs : List Request) → qs ≡ vec-items (f .requests) → bytes (contentOf f) ≡ encodeAll (λ r. rowRecord (timesOf r)) rs ++ (encodeAll Record.Request qs ++ encode (Record.Stop (f .stop)))
   file-parts qs e =
       bytes-parts (rowsOf (f .rows)) (vec-items (f .requests)) (f .stop)
-      ∙ ap (λ l. l ++ (encodeAll Record.Request (vec-items (f .requests)) ++ encode (Record.Stop (f .stop)))) (sym (encode-rows rs ∙ ap (encodeAll rowRecord) same))
+      ∙ ap (λ l. l ++ (encodeAll Record.Request (vec-items (f .requests)) ++ encode (Record.Stop (f .stop)))) (ap (encodeAll rowRecord) (sym same) ∙ ap (joined encode) (map-map rowRecord timesOf rs))
       ∙ ap (λ l. encodeAll (λ r. rowRecord (timesOf r)) rs ++ (encodeAll Record.Request l ++ encode (Record.Stop (f .stop)))) (sym e)
 
   pub file-long : (qs : List Request) → qs ≡ vec-items (f .requests) → length (encodeAll (λ r. rowRecord (timesOf r)) rs) + length (encodeAll Record.Request qs) + 5 ≡ length (bytes (contentOf f))

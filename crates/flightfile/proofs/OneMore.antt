@@ -20,13 +20,7 @@ use Rattle.flightfile.specs.declared.record.Request.{Request}
 use Rattle.flightfile.specs.Answers.{lastArrival, InPlace, Fit, Allowed, extend, Unfit, Unlawful}
 use Rattle.flightfile.specs.Contents.{Content, content, rowRecord, records, bytes, TicksInLimits, RequestLawful, NotFalling, StopInRange, Lawful}
 use Rattle.flightfile.specs.Records.{encode, Encodable}
-
-pub joined-append : (xs ys : List Record) → joined encode (xs ++ ys) ≡ joined encode xs ++ joined encode ys
-joined-append [] ys = refl
-joined-append (x ∷ xs) ys = ap (λ l. encode x ++ l) (joined-append xs ys) ∙ sym (append-assoc (encode x) (joined encode xs) (joined encode ys))
-
-pub joined-push : (xs : List Record) (x : Record) → joined encode (xs ++ x ∷ []) ≡ joined encode xs ++ encode x
-joined-push xs x = joined-append xs (x ∷ []) ∙ ap (λ l. joined encode xs ++ l) (append-nil (encode x))
+use Rattle.flightfile.proofs.Joined.{joined-push}
 
 records-extend : (c : Content) (x : Record) → InPlace c x → records (extend c x) ≡ records c ++ x ∷ []
 records-extend c (Record.Row cost deadline period) p =
@@ -52,7 +46,7 @@ records-extend c (Record.Stop n) p =
     ∙ sym (append-assoc rows (asked ++ map Record.Stop (listOf (c .stop))) (Record.Stop n ∷ []))
 
 pub bytes-extend : (c : Content) (x : Record) → InPlace c x → bytes (extend c x) ≡ bytes c ++ encode x
-bytes-extend c x p = ap (joined encode) (records-extend c x p) ∙ joined-push (records c) x
+bytes-extend c x p = ap (joined encode) (records-extend c x p) ∙ joined-push encode (records c) x
 
 not-falling-push : (a : ℕ) (qs : List Request) (q : Request) → NotFalling a qs → lastArrival a qs ≤ q .arrival → NotFalling a (qs ++ q ∷ [])
 not-falling-push a [] q h l = (l, tt)
