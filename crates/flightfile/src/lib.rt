@@ -1,5 +1,6 @@
 // Flight files: reading them, refusing what is wrong with its place, and writing them back.
 pub mod file;
+pub mod input;
 mod reader;
 pub mod reading;
 pub mod record;

@@ -15,7 +15,7 @@ use model::refusal::PlacedRefusalDebug;
 use model::refusal::PlacedRefusalPartialEq;
 
 // The longest flight file, in bytes.
-const MOST_BYTES: usize = 65_536;
+pub const MOST_BYTES: usize = 65_536;
 
 // Why there is no content: the file is refused, or there was no memory for its requests.
 #[derive(Clone, Copy, Debug, PartialEq, Eq)]
