@@ -10,20 +10,35 @@ use std::alloc::Global;
 use std::test::*;
 
 static ROW: [u8; 7] = [0x52, 1, 0, 3, 0, 4, 0];
+
 static REQUEST: [u8; 9] = [0x51, 3, 0, 0, 0, 7, 0, 2, 0];
 
 // What a file says, in short, or its refusal's number and place.
 #[derive(Clone, Copy, Debug, PartialEq)]
 enum Outcome {
-    Says { rows: usize, requests: usize, stop: u32 },
-    Refused { number: u8, place: usize },
+    Says {
+        rows: usize,
+        requests: usize,
+        stop: u32,
+    },
+    Refused {
+        number: u8,
+        place: usize,
+    },
     NoMemory,
 }
 
 fn answer(heap: Global, bytes: &[u8]) -> Outcome {
     match FlightFile::read(heap, bytes) {
-        Ok(file) => Outcome::Says { rows: file.rows.rows().len(), requests: file.requests.len(), stop: file.stop },
-        Err(ReadError::Refused(refused)) => Outcome::Refused { number: refused.refusal.number(), place: refused.place },
+        Ok(file) => Outcome::Says {
+            rows: file.rows.rows().len(),
+            requests: file.requests.len(),
+            stop: file.stop,
+        },
+        Err(ReadError::Refused(refused)) => Outcome::Refused {
+            number: refused.refusal.number(),
+            place: refused.place,
+        },
         Err(ReadError::NoMemory) => Outcome::NoMemory,
     }
 }
@@ -39,11 +54,25 @@ struct Case {
 
 fn says(rows: usize, requests: usize, tail: &'static [u8], more: usize, stop: u32) -> Case {
     let all = requests.saturating_add(more);
-    Case { rows, requests, tail, outcome: Outcome::Says { rows, requests: all, stop } }
+    Case {
+        rows,
+        requests,
+        tail,
+        outcome: Outcome::Says {
+            rows,
+            requests: all,
+            stop,
+        },
+    }
 }
 
 fn refused(rows: usize, requests: usize, tail: &'static [u8], number: u8, place: usize) -> Case {
-    Case { rows, requests, tail, outcome: Outcome::Refused { number, place } }
+    Case {
+        rows,
+        requests,
+        tail,
+        outcome: Outcome::Refused { number, place },
+    }
 }
 
 fn built(heap: Global, case: &Case) -> Result<Vec<u8>, AllocError> {
@@ -77,9 +106,27 @@ fn each_refusal_at_its_edge(rt: LibcRuntime) -> Result<(), Fail> {
         says(1, 1, &[0x53, 0x00, 0x94, 0x35, 0x77], 0, 2_000_000_000),
         refused(1, 1, &[0x53, 0x01, 0x94, 0x35, 0x77], 8, 16),
         // 10: requests of 0, 1, 60,000 and 60,001 ticks
-        refused(1, 0, &[0x51, 3, 0, 0, 0, 7, 0, 0, 0, 0x53, 12, 0, 0, 0], 10, 7),
-        says(1, 0, &[0x51, 3, 0, 0, 0, 7, 0, 1, 0, 0x53, 12, 0, 0, 0], 1, 12),
-        says(0, 1, &[0x51, 3, 0, 0, 0, 7, 0, 0x60, 0xea, 0x53, 12, 0, 0, 0], 1, 12),
+        refused(
+            1,
+            0,
+            &[0x51, 3, 0, 0, 0, 7, 0, 0, 0, 0x53, 12, 0, 0, 0],
+            10,
+            7,
+        ),
+        says(
+            1,
+            0,
+            &[0x51, 3, 0, 0, 0, 7, 0, 1, 0, 0x53, 12, 0, 0, 0],
+            1,
+            12,
+        ),
+        says(
+            0,
+            1,
+            &[0x51, 3, 0, 0, 0, 7, 0, 0x60, 0xea, 0x53, 12, 0, 0, 0],
+            1,
+            12,
+        ),
         refused(0, 1, &[0x51, 3, 0, 0, 0, 7, 0, 0x61, 0xea], 10, 9),
         // 12: the longest file, and one byte more
         says(8, 7275, &[0x53, 12, 0, 0, 0], 0, 12),
@@ -89,12 +136,39 @@ fn each_refusal_at_its_edge(rt: LibcRuntime) -> Result<(), Fail> {
         refused(1, 1, &[0x54, 12, 0, 0, 0], 14, 16),
         refused(1, 1, &[0x53, 12, 0, 0, 0, 0], 14, 21),
         // 15: out of place, tested before the record's own refusals; equal and rising arrivals are in place
-        says(0, 2, &[0x51, 0xff, 0xff, 0xff, 0xff, 0xff, 0xff, 2, 0, 0x53, 12, 0, 0, 0], 1, 12),
+        says(
+            0,
+            2,
+            &[
+                0x51,
+                0xff,
+                0xff,
+                0xff,
+                0xff,
+                0xff,
+                0xff,
+                2,
+                0,
+                0x53,
+                12,
+                0,
+                0,
+                0,
+            ],
+            1,
+            12,
+        ),
         refused(1, 1, &[0x52, 1, 0, 3, 0, 4, 0, 0x53, 12, 0, 0, 0], 15, 16),
         refused(16, 1, &[0x52, 0, 0, 0, 0, 0, 0], 15, 121),
         refused(1, 1, &[0x51, 2, 0, 0, 0, 7, 0, 0, 0], 15, 16),
         refused(1, 1, &[0x53, 12, 0, 0, 0, 0x53, 0, 0, 0, 0], 15, 21),
-        refused(0, 0, &[0x53, 12, 0, 0, 0, 0x51, 3, 0, 0, 0, 7, 0, 2, 0], 15, 5),
+        refused(
+            0,
+            0,
+            &[0x53, 12, 0, 0, 0, 0x51, 3, 0, 0, 0, 7, 0, 2, 0],
+            15,
+            5,
+        ),
         refused(0, 0, &[0x53, 12, 0, 0, 0, 0x52, 1, 0, 3, 0, 4, 0], 15, 5),
         // 13: the end inside a record, tested before the place
         refused(1, 1, &[0x52, 1, 0, 3, 0, 4], 13, 16),
@@ -112,7 +186,34 @@ fn each_refusal_at_its_edge(rt: LibcRuntime) -> Result<(), Fail> {
 
 // Two rows, one request, stop 12.
 static EXAMPLE: [u8; 28] = [
-    0x52, 1, 0, 3, 0, 4, 0, 0x52, 1, 0, 3, 0, 3, 0, 0x51, 3, 0, 0, 0, 7, 0, 2, 0, 0x53, 12, 0, 0, 0,
+    0x52,
+    1,
+    0,
+    3,
+    0,
+    4,
+    0,
+    0x52,
+    1,
+    0,
+    3,
+    0,
+    3,
+    0,
+    0x51,
+    3,
+    0,
+    0,
+    0,
+    7,
+    0,
+    2,
+    0,
+    0x53,
+    12,
+    0,
+    0,
+    0,
 ];
 
 #[test]
@@ -127,9 +228,19 @@ fn the_example_cut_at_every_byte(rt: LibcRuntime) -> Result<(), Fail> {
             _ => 23,
         };
         let number = if cut == place { 16 } else { 13 };
-        check_eq(answer(heap, &EXAMPLE[0..cut]), Outcome::Refused { number, place })?;
+        check_eq(
+            answer(heap, &EXAMPLE[0..cut]),
+            Outcome::Refused { number, place },
+        )?;
     }
-    check_eq(answer(heap, &EXAMPLE), Outcome::Says { rows: 2, requests: 1, stop: 12 })
+    check_eq(
+        answer(heap, &EXAMPLE),
+        Outcome::Says {
+            rows: 2,
+            requests: 1,
+            stop: 12,
+        },
+    )
 }
 
 #[test]
@@ -151,7 +262,10 @@ fn a_file_is_written_as_it_was_read(rt: LibcRuntime) -> Result<(), Fail> {
 #[test]
 fn a_file_is_listed_line_by_line(rt: LibcRuntime) -> Result<(), Fail> {
     let text = listing::report(rt.alloc(), &EXAMPLE)?;
-    check_eq(text.as_str(), "row,1,3,4\nrow,1,3,3\nrequest,3,7,2\nstop,12\nread,28,2,1,same\n")?;
+    check_eq(
+        text.as_str(),
+        "row,1,3,4\nrow,1,3,3\nrequest,3,7,2\nstop,12\nread,28,2,1,same\n",
+    )?;
     let text = listing::report(rt.alloc(), &EXAMPLE[0..27])?;
     check_eq(text.as_str(), "refused,13,23\n")
 }

@@ -34,8 +34,7 @@ goes-append c d e (x ∷ xs) ys g h = (g .0, g .1, goes-append (extend c x) d e 
 rows-go : (before ts : List Times) → length before + length ts ≤ 16 → All InLimits ts → Goes (content before [] None) (map rowRecord ts) (content (before ++ ts) [] None)
 rows-go before [] few h = ap (λ l. content l [] None) (sym (append-nil before))
 rows-go before (t ∷ ts) few h =
-    let l = h .0 in
-    (
+    let l = h .0 in (
       (omega arith, omega arith, omega arith),
       record { placed = (refl, refl); fit = (omega arith, l) },
       subst (λ l. Goes (content (before ++ t ∷ []) [] None) (map rowRecord ts) (content l [] None)) (append-assoc before (t ∷ []) ts) (rows-go (before ++ t ∷ []) ts (omega (arith, length-push before t)) (h .1)),
@@ -44,8 +43,7 @@ rows-go before (t ∷ ts) few h =
 requests-go : (rows : List Times) (before qs : List Request) → All RequestLawful qs → NotFalling (lastArrival 0 before) qs → Goes (content rows before None) (map Record.Request qs) (content rows (before ++ qs) None)
 requests-go rows before [] h o = ap (λ l. content rows l None) (sym (append-nil before))
 requests-go rows before (q ∷ qs) h o =
-    let l = h .0 in
-    (
+    let l = h .0 in (
       (l .arrival, l .number, omega (arith, l .ticks .1)),
       record { placed = (o .0, refl); fit = l .ticks },
       subst (λ l. Goes (content rows (before ++ q ∷ []) None) (map Record.Request qs) (content rows l None)) (append-assoc before (q ∷ []) qs) (requests-go rows (before ++ q ∷ []) qs (h .1) (subst (λ a. NotFalling a qs) (sym (last-push 0 before q)) (o .1))),

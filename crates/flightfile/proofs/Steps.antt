@@ -17,7 +17,7 @@ use Rattle.flightfile.specs.declared.reader.Reader.{Reader}
 use Rattle.flightfile.specs.declared.record.Record.{Record}
 use Rattle.flightfile.specs.Answers.{Allowed, extend, Front}
 use Rattle.flightfile.specs.Contents.{Content, bytes, Lawful}
-use Rattle.flightfile.specs.Reading.{at, placedAt, seen, ahead, Reached, WantsMemory, Sofar, Taken, Admitted, Stepped, Reads}
+use Rattle.flightfile.specs.Reading.{refusalAt, placedAt, seen, ahead, Reached, WantsMemory, Sofar, Taken, Admitted, Stepped, Reads}
 use Rattle.flightfile.specs.Records.{encode, Unreadable, Begins, Split}
 use Rattle.flightfile.proofs.OneAnswer.{record-long}
 use Rattle.flightfile.proofs.OneMore.{bytes-extend, lawful-extend}
@@ -55,8 +55,7 @@ pub stepped : (old mid : Reader) (x : Record) (rest : List ℕ) → Sofar old �
 stepped old mid x rest h b t =
     let bs = old .input .now in
     let n : ℕ = length bs - length rest in
-    let front = next-front bs (seen old) (old .place) (ahead old) x rest (h .front) b (t .allowed) n refl in
-    (
+    let front = next-front bs (seen old) (old .place) (ahead old) x rest (h .front) b (t .allowed) n refl in (
       record {
         short = omega (arith, ap length (t .input), h .short);
         inside = omega (arith, ap length (t .input));
@@ -84,7 +83,7 @@ placed-ok bs (Err d) n v e s = let z : _≡_ {A = ℕ} 0 1 = cc in absurd (omega
 pub placed-err : (bs : List ℕ) (r : Result Halves Refusal) (n : ℕ) (p : PlacedRefusal) → Err p ≡ placedAt r n → Split bs r → Unreadable bs (p .refusal) × (p .place ≡ n)
 placed-err bs (Ok u) n p e s = let z : _≡_ {A = ℕ} 0 1 = cc in absurd (omega arith)
 placed-err bs (Err d) n p e s =
-    let same : at d n ≡ p = cc in
+    let same : refusalAt d n ≡ p = cc in
     (subst (λ (q : PlacedRefusal). Unreadable bs (q .refusal)) same s, sym (ap (λ (q : PlacedRefusal). q .place) same))
 
 -- What a step says is wrong is the answer to the whole input.

@@ -34,12 +34,12 @@ Reads bs (Ok f) = Says bs (contentOf f)
 Reads bs (Err (ReadError.Refused p)) = Refuses bs (p .refusal) (p .place)
 Reads bs (Err ReadError.NoMemory) = WantsMemory bs
 
-abbrev pub at : Refusal → ℕ → PlacedRefusal
-at e n = record { refusal = e; place = n }
+abbrev pub refusalAt : Refusal → ℕ → PlacedRefusal
+refusalAt e n = record { refusal = e; place = n }
 
 abbrev pub placedAt : {T : Type 0} → Result T Refusal → ℕ → Result T PlacedRefusal
 placedAt (Ok x) n = Ok x
-placedAt (Err e) n = Err (at e n)
+placedAt (Err e) n = Err (refusalAt e n)
 
 abbrev pub stopOf : Phase → Option ℕ
 stopOf Phase.Rows = None

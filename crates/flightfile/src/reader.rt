@@ -5,7 +5,7 @@ ghost use lib.ListN.{length};
 ghost use Prim.Native.Nat.{_<_, _≤_};
 ghost use Rattle.std.specs.Of.Vec.{vec-items};
 ghost use Rattle.std.specs.declared.option.Option.the-variants.{None};
-ghost use Rattle.flightfile.specs.Reading.{stopOf, Sofar, Stepped, Admitted, Reads, at, placedAt};
+ghost use Rattle.flightfile.specs.Reading.{stopOf, Sofar, Stepped, Admitted, Reads, refusalAt, placedAt};
 ghost use Rattle.flightfile.specs.Answers.{lastArrival};
 use crate::file::FlightFile;
 use crate::reading::ReadError;
@@ -16,9 +16,12 @@ use crate::record::Request;
 use model::draft::Draft;
 use model::refusal::PlacedRefusal;
 use model::refusal::Refusal;
+use std::alloc::Global;
 
-// The most ticks of a request, and the last tick count of a flight.
+// The most ticks of a request.
 const MOST_TICKS: u16 = 60_000;
+
+// The last tick count of a flight.
 const LAST_TICK: u32 = 2_000_000_000;
 
 // The part of the file that has been reached, with the arrival that no request may fall below.
@@ -32,11 +35,11 @@ pub(crate) enum Phase {
 // The records before `place` have been read.
 #[derive(Drop)]
 pub(crate) struct Reader<'a> {
-    pub(crate) input: &'a [u8],
+    input: &'a [u8],
     pub(crate) place: usize,
-    pub(crate) phase: Phase,
-    pub(crate) rows: Draft,
-    pub(crate) requests: Vec<Request>,
+    phase: Phase,
+    rows: Draft,
+    requests: Vec<Request>,
 }
 
 // The result with the place of its refusal.
@@ -49,7 +52,22 @@ fn placed<T>(result: Result<T, Refusal>, place: usize) -> Result<T, PlacedRefusa
     }
 }
 
-impl Reader<'_> {
+impl<'a> Reader<'a> {
+    // Before the first record.
+    pub(crate) fn new(heap: Global, input: &'a [u8]) -> Reader<'a>
+        requires { ⌜ length (now input) ≤ 65536 ⌝ }
+        ensures sofar { λ r. ⌜ Sofar r ⌝ }
+        ensures over { λ r. ⌜ now (r .input) ≡ now (input .entry) ⌝ }
+    {
+        Reader {
+            input,
+            place: 0,
+            phase: Phase::Rows,
+            rows: Draft::new(),
+            requests: Vec::new(heap),
+        }
+    }
+
     // Reads the record at `place`.
     pub(crate) fn step(&mut self) -> Result<(), ReadError>
         requires sofar { ⌜ Sofar (now self) ⌝ }
@@ -65,9 +83,12 @@ impl Reader<'_> {
 
     // A refusal of the record at `place`.
     fn refuse(&self, refusal: Refusal) -> ReadError
-        ensures { λ r. ⌜ r ≡ ReadError.Refused (at refusal (now (self .entry) .place)) ⌝ }
+        ensures { λ r. ⌜ r ≡ ReadError.Refused (refusalAt refusal (now (self .entry) .place)) ⌝ }
     {
-        ReadError::Refused(PlacedRefusal { refusal, place: self.place })
+        ReadError::Refused(PlacedRefusal {
+            refusal,
+            place: self.place,
+        })
     }
 
     // Takes in what the record says, if it may stand here and its numbers are within their limits.
@@ -77,20 +98,30 @@ impl Reader<'_> {
     {
         let place = self.place;
         match (self.phase, found) {
-            (Phase::Rows, Record::Row { cost, deadline, period }) => {
+            (
+                Phase::Rows,
+                Record::Row {
+                    cost,
+                    deadline,
+                    period,
+                },
+            ) => {
                 placed(self.rows.add(cost, deadline, period), place)?;
                 Ok(())
             }
-            (Phase::Rows, Record::Request(request)) => self.ask(0, request),
-            (Phase::Requests { last }, Record::Request(request)) => self.ask(last, request),
-            (Phase::Rows, Record::Stop(ticks)) => self.stop(ticks),
-            (Phase::Requests { .. }, Record::Stop(ticks)) => self.stop(ticks),
+            (Phase::Rows, Record::Request(request)) => self.admit_request(0, request),
+            (Phase::Requests { last }, Record::Request(request)) => self.admit_request(
+                last,
+                request,
+            ),
+            (Phase::Rows, Record::Stop(ticks)) => self.admit_stop(ticks),
+            (Phase::Requests { .. }, Record::Stop(ticks)) => self.admit_stop(ticks),
             _ => Err(self.refuse(Refusal::RecordOutOfPlace)),
         }
     }
 
     // Keeps a request, which may arrive no earlier than `last`.
-    fn ask(&mut self, last: u32, request: Request) -> Result<(), ReadError>
+    fn admit_request(&mut self, last: u32, request: Request) -> Result<(), ReadError>
         requires running { ⌜ stopOf (now self .phase) ≡ None ⌝ }
         requires last { ⌜ last ≡ lastArrival 0 (vec-items (now self .requests)) ⌝ }
         ensures { λ r. ⌜ Admitted (now (self .entry)) (Record.Request request) r (now (self .exit)) ⌝ }
@@ -102,12 +133,14 @@ impl Reader<'_> {
             return Err(self.refuse(Refusal::RequestOutsideLimits));
         }
         self.requests.push(request)?;
-        self.phase = Phase::Requests { last: request.arrival };
+        self.phase = Phase::Requests {
+            last: request.arrival,
+        };
         Ok(())
     }
 
     // Notes the stop.
-    fn stop(&mut self, ticks: u32) -> Result<(), ReadError>
+    fn admit_stop(&mut self, ticks: u32) -> Result<(), ReadError>
         requires sofar { ⌜ Sofar (now self) ⌝ }
         requires running { ⌜ stopOf (now self .phase) ≡ None ⌝ }
         ensures { λ r. ⌜ Admitted (now (self .entry)) (Record.Stop ticks) r (now (self .exit)) ⌝ }
@@ -125,10 +158,23 @@ impl Reader<'_> {
         requires whole { ⌜ length (now (self .input)) ≤ self .place ⌝ }
         ensures { λ r. ⌜ Reads (now (self .entry .input)) r ⌝ }
     {
-        let Reader { input: _, place, phase, rows, requests } = self;
+        let Reader {
+            input: _,
+            place,
+            phase,
+            rows,
+            requests,
+        } = self;
         match phase {
-            Phase::Stopped { ticks } => Ok(FlightFile { rows, requests, stop: ticks }),
-            Phase::Rows | Phase::Requests { .. } => Err(ReadError::Refused(PlacedRefusal { refusal: Refusal::NoStopRecord, place })),
+            Phase::Stopped { ticks } => Ok(FlightFile {
+                rows,
+                requests,
+                stop: ticks,
+            }),
+            Phase::Rows | Phase::Requests { .. } => Err(ReadError::Refused(PlacedRefusal {
+                refusal: Refusal::NoStopRecord,
+                place,
+            })),
         }
     }
 }

@@ -4,15 +4,13 @@ ghost use Rattle.flightfile.specs.Reading.{Reads};
 ghost use Rattle.flightfile.specs.declared.reading.ReadError.the-variants.{Refused as Rejected, NoMemory};
 ghost use mathlib.Core.Path.{_≡_};
 use crate::file::FlightFile;
-use crate::reader::Phase;
 use crate::reader::Reader;
-use model::draft::Draft;
 use model::refusal::PlacedRefusal;
+use model::refusal::PlacedRefusalDebug;
+use model::refusal::PlacedRefusalPartialEq;
 use model::refusal::Refusal;
 use std::alloc::Global;
 use std::alloc::Refused;
-use model::refusal::PlacedRefusalDebug;
-use model::refusal::PlacedRefusalPartialEq;
 
 // The longest flight file, in bytes.
 pub const MOST_BYTES: usize = 65_536;
@@ -47,9 +45,12 @@ impl FlightFile {
         ensures one { λ _. ⌜ OneAnswer ⌝ }
     {
         if input.len() > MOST_BYTES {
-            return Err(ReadError::Refused(PlacedRefusal { refusal: Refusal::FileTooLong, place: 0 }));
+            return Err(ReadError::Refused(PlacedRefusal {
+                refusal: Refusal::FileTooLong,
+                place: 0,
+            }));
         }
-        let mut reader = Reader { input, place: 0, phase: Phase::Rows, rows: Draft::new(), requests: Vec::new(heap) };
+        let mut reader = Reader::new(heap, input);
         while reader.place < input.len() {
             reader.step()?;
         }

@@ -6,7 +6,9 @@ use model::refusal::Refusal;
 
 // The kind bytes: the letters R, Q and S.
 pub(crate) const ROW: u8 = 0x52;
+
 pub(crate) const REQUEST: u8 = 0x51;
+
 pub(crate) const STOP: u8 = 0x53;
 
 // A single request as the file has it: so many ticks of work, handed in at the tick `arrival`.
@@ -20,7 +22,11 @@ pub struct Request {
 // What one record says. Nothing is known of the numbers yet.
 #[derive(Clone, Copy)]
 pub enum Record {
-    Row { cost: u16, deadline: u16, period: u16 },
+    Row {
+        cost: u16,
+        deadline: u16,
+        period: u16,
+    },
     Request(Request),
     Stop(u32),
 }
@@ -36,15 +42,32 @@ impl Record {
                 let cost = u16::from_le_bytes([*c0, *c1]);
                 let deadline = u16::from_le_bytes([*d0, *d1]);
                 let period = u16::from_le_bytes([*t0, *t1]);
-                Ok((Record::Row { cost, deadline, period }, rest))
+                Ok((
+                    Record::Row {
+                        cost,
+                        deadline,
+                        period,
+                    },
+                    rest,
+                ))
             }
             [REQUEST, a0, a1, a2, a3, n0, n1, t0, t1, rest @ ..] => {
                 let arrival = u32::from_le_bytes([*a0, *a1, *a2, *a3]);
                 let number = u16::from_le_bytes([*n0, *n1]);
                 let ticks = u16::from_le_bytes([*t0, *t1]);
-                Ok((Record::Request(Request { arrival, number, ticks }), rest))
+                Ok((
+                    Record::Request(Request {
+                        arrival,
+                        number,
+                        ticks,
+                    }),
+                    rest,
+                ))
             }
-            [STOP, s0, s1, s2, s3, rest @ ..] => Ok((Record::Stop(u32::from_le_bytes([*s0, *s1, *s2, *s3])), rest)),
+            [STOP, s0, s1, s2, s3, rest @ ..] => Ok((
+                Record::Stop(u32::from_le_bytes([*s0, *s1, *s2, *s3])),
+                rest,
+            )),
             [ROW | REQUEST | STOP, ..] => Err(Refusal::EndInsideRecord),
             _ => Err(Refusal::UnknownKind),
         }

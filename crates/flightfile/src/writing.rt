@@ -2,7 +2,7 @@
 ghost use mathlib.Core.List.{map};
 ghost use mathlib.Core.Path.{_≡_};
 ghost use lib.ListN.{length};
-ghost use Prim.Native.Nat.{_+_, _≤_};
+ghost use Prim.Native.Nat.{_+_, _*_, _≤_};
 ghost use Rattle.flightfile.specs.Answers.{Says};
 ghost use Rattle.flightfile.specs.Contents.{bytes, rowRecord};
 ghost use Rattle.flightfile.specs.declared.record.Record.{Record as Meaning};
@@ -23,7 +23,9 @@ use model::row::Row;
 
 // The bytes of each kind of record.
 const ROW_BYTES: usize = 7;
+
 const REQUEST_BYTES: usize = 9;
+
 const STOP_BYTES: usize = 5;
 
 // What has a record of its own in a flight file.
@@ -39,7 +41,11 @@ pub impl ToRecord for Row as RowToRecord {
     ghost meaning = { λ r. rowRecord (timesOf r) };
 
     fn to_record(&self) -> Record {
-        Record::Row { cost: self.cost, deadline: self.deadline, period: self.period }
+        Record::Row {
+            cost: self.cost,
+            deadline: self.deadline,
+            period: self.period,
+        }
     }
 }
 
@@ -70,7 +76,11 @@ impl Record {
         ensures end { λ r. ⌜ r ≡ at + length (encode self) ⌝ }
     {
         match self {
-            Record::Row { cost, deadline, period } => {
+            Record::Row {
+                cost,
+                deadline,
+                period,
+            } => {
                 let [c0, c1] = cost.to_le_bytes();
                 let [d0, d1] = deadline.to_le_bytes();
                 let [t0, t1] = period.to_le_bytes();
@@ -103,12 +113,20 @@ fn put_all<T: ToRecord>(out: &mut [u8], at: usize, items: &[T]) -> usize
     end
 }
 
+// The bytes of a file with so many rows and requests and a stop.
+fn bytes_of(rows: usize, requests: usize) -> usize
+    requires { ⌜ 7 * rows + 9 * requests + 5 ≤ 65536 ⌝ }
+    ensures { λ r. ⌜ r ≡ 7 * rows + 9 * requests + 5 ⌝ }
+{
+    ROW_BYTES * rows + REQUEST_BYTES * requests + STOP_BYTES
+}
+
 impl FlightFile {
     // How many bytes the file has.
     pub fn byte_len(&self) -> usize
         ensures { λ r. ⌜ r ≡ length (bytes (contentOf (now (self .entry)))) ⌝ }
     {
-        ROW_BYTES * self.rows.rows().len() + REQUEST_BYTES * self.requests.len() + STOP_BYTES
+        bytes_of(self.rows.rows().len(), self.requests.len())
     }
 
     // Writes the file into the front of `out`, and answers how many bytes it has; or refuses with 17.

@@ -29,19 +29,20 @@ lines-next f before text xs i x r h is e t =
     ∙ ap (λ l. before ++ joined recordLine l) (sym (map-more f xs i x h))
 
 -- The lines of the rows, the requests and the stop are those of the file.
-pub lines-of : (f : FlightFile) (rs : List Row) (qs : List Request) (t0 t1 t2 t3 : List ℕ) → map timesOf rs ≡ rowsOf (f .rows) → qs ≡ vec-items (f .requests) → t0 ≡ [] → t1 ≡ t0 ++ joined recordLine (map (λ r. rowRecord (timesOf r)) rs) → t2 ≡ t1 ++ joined recordLine (map Record.Request qs) → t3 ≡ t2 ++ recordLine (Record.Stop (f .stop)) → t3 ≡ recordLines (contentOf f)
-lines-of f rs qs t0 t1 t2 t3 same asked e0 e1 e2 e3 =
+pub lines-of : (f : FlightFile) (rs : List Row) (qs : List Request) (stop : ℕ) (t0 t1 t2 t3 : List ℕ) → map timesOf rs ≡ rowsOf (f .rows) → qs ≡ vec-items (f .requests) → stop ≡ f .stop → t0 ≡ [] → t1 ≡ t0 ++ joined recordLine (map (λ r. rowRecord (timesOf r)) rs) → t2 ≡ t1 ++ joined recordLine (map Record.Request qs) → t3 ≡ t2 ++ recordLine (Record.Stop stop) → t3 ≡ recordLines (contentOf f)
+lines-of f rs qs stop t0 t1 t2 t3 same asked last e0 e1 e2 e3 =
     let rows : List Record = map rowRecord (rowsOf (f .rows)) in
     let requests : List Record = map Record.Request (vec-items (f .requests)) in
-    let stop : List Record = Record.Stop (f .stop) ∷ [] in
+    let end : List Record = Record.Stop (f .stop) ∷ [] in
     let first : t1 ≡ joined recordLine rows = e1 ∙ ap (λ l. l ++ joined recordLine (map (λ r. rowRecord (timesOf r)) rs)) e0 ∙ ap (joined recordLine) (sym (map-map rowRecord timesOf rs) ∙ ap (map rowRecord) same) in
     let second : t2 ≡ joined recordLine rows ++ joined recordLine requests = e2 ∙ ap (λ l. l ++ joined recordLine (map Record.Request qs)) first ∙ ap (λ l. joined recordLine rows ++ joined recordLine (map Record.Request l)) asked in
     e3
+    ∙ ap (λ n. t2 ++ recordLine (Record.Stop n)) last
     ∙ ap (λ l. l ++ recordLine (Record.Stop (f .stop))) second
     ∙ append-assoc (joined recordLine rows) (joined recordLine requests) (recordLine (Record.Stop (f .stop)))
     ∙ ap (λ l. joined recordLine rows ++ (joined recordLine requests ++ l)) (sym (append-nil (recordLine (Record.Stop (f .stop)))))
-    ∙ ap (λ l. joined recordLine rows ++ l) (sym (joined-append recordLine requests stop))
-    ∙ sym (joined-append recordLine rows (requests ++ stop))
+    ∙ ap (λ l. joined recordLine rows ++ l) (sym (joined-append recordLine requests end))
+    ∙ sym (joined-append recordLine rows (requests ++ end))
 
 -- A file that says c is reported so.
 pub reported : (file : List ℕ) (c : Content) (before text found : List ℕ) (rows requests : ℕ) → Says file c → before ≡ recordLines c → text ≡ before ++ summaryLine (length file) rows requests found → rows ≡ length (c .rows) → requests ≡ length (c .requests) → found ≡ codes "same" → Reported file text

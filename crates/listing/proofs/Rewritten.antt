@@ -26,4 +26,3 @@ module _ (bs zeros new input : List ℕ) (n : ℕ) (w : Written bs zeros (Ok n) 
   -- Another number of bytes was written.
   pub other-many : (n ≡ length input → ⊥) → r ≡ eqb n (length input) → Decides r (bs ≡ input)
   other-many apart e = (λ t. absurd (apart (eqb-true n (length input) (sym e ∙ t))), λ s. absurd (apart (w .1 ∙ ap length s)))
-

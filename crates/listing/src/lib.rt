@@ -1,5 +1,6 @@
 // The listing of a flight file: the text that the program `inspect` prints.
-ghost use mathlib.Core.Bool.{true};
+ghost use lib.Chars.{codes};
+ghost use mathlib.Core.Bool.{cond};
 ghost use mathlib.Core.List.{_++_, map};
 ghost use mathlib.Core.Path.{_≡_};
 ghost use Rattle.flightfile.specs.Contents.{bytes};
@@ -26,7 +27,11 @@ fn push_line(text: &mut String, entry: Record) -> fmt::Result
     ensures { λ r. ⌜ made r (λ _. string-bytes (now (text .exit)) ≡ string-bytes (now (text .entry)) ++ recordLine entry) ⌝ }
 {
     match entry {
-        Record::Row { cost, deadline, period } => writeln!(text, "row,{cost},{deadline},{period}"),
+        Record::Row {
+            cost,
+            deadline,
+            period,
+        } => writeln!(text, "row,{cost},{deadline},{period}"),
         Record::Request(request) => {
             let arrival = request.arrival;
             let number = request.number;
@@ -69,8 +74,21 @@ fn is_written_as(heap: Global, file: &FlightFile, input: &[u8]) -> Result<bool, 
     }
 }
 
+// How a file was found when it was written back.
+fn found_word(same: bool) -> &'static str
+    ensures { λ r. ⌜ now r ≡ cond same (codes "same") (codes "differs") ⌝ }
+{
+    if same { "same" } else { "differs" }
+}
+
 // Adds the last line of the listing.
-fn push_summary(text: &mut String, size: usize, rows: usize, requests: usize, found: &str) -> fmt::Result
+fn push_summary(
+    text: &mut String,
+    size: usize,
+    rows: usize,
+    requests: usize,
+    found: &str,
+) -> fmt::Result
     ensures { λ r. ⌜ made r (λ _. string-bytes (now (text .exit)) ≡ string-bytes (now (text .entry)) ++ summaryLine size rows requests (now (found .entry))) ⌝ }
 {
     writeln!(text, "read,{size},{rows},{requests},{found}")
@@ -95,7 +113,9 @@ pub fn report(heap: Global, input: &[u8]) -> io::Result<String>
         Err(ReadError::NoMemory) => return Err(AllocError.into()),
     };
     let mut text = list(heap, &file)?;
-    let found = if is_written_as(heap, &file, input)? { "same" } else { "differs" };
-    push_summary(&mut text, input.len(), file.rows.rows().len(), file.requests.len(), found)?;
+    let found = found_word(is_written_as(heap, &file, input)?);
+    let rows = file.rows.rows().len();
+    let requests = file.requests.len();
+    push_summary(&mut text, input.len(), rows, requests, found)?;
     Ok(text)
 }

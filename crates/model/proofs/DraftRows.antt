@@ -14,8 +14,9 @@ use Rattle.model.specs.Rows.{Times, timesOf, InLimits}
 pub length-rowsOf : (d : Draft) → length (rowsOf d) ≡ d .len
 length-rowsOf d = length-map (take (d .len) (d .slots)) timesOf ∙ length-take-le (d .len) (d .slots) (omega (arith, d .full, d .few))
 
-pub rows-push : (slots : List Row) (len : ℕ) (row : Row) → len < length slots → map timesOf (take (len + 1) (set slots len row)) ≡ map timesOf (take len slots) ++ timesOf row ∷ []
-rows-push slots len row h = ap (map timesOf) (take-more-set slots len row h) ∙ map-push timesOf (take len slots) row
+pub rows-push : (slots : List Row) (at len : ℕ) (row : Row) → at ≡ len → len < length slots → map timesOf (take (len + 1) (set slots at row)) ≡ map timesOf (take len slots) ++ timesOf row ∷ []
+rows-push slots at len row e h =
+    ap (λ n. map timesOf (take (len + 1) (set slots n row))) e ∙ ap (map timesOf) (take-more-set slots len row h) ∙ map-push timesOf (take len slots) row
 
 row-in-limits : (r : Row) → InLimits (timesOf r)
 row-in-limits r = record { some = r .some; fits = r .fits; within = r .within; limit = r .limit }

@@ -12,6 +12,6 @@ returns-in-Ok c =
     let buffer = c .as-mut-slice .result .now in
     let wrote = c .in-Ok .ensures tt .wrote in
     elim (c .if-n-input .came) [
-      then-n-input w ↦ as-many bs buffer (c .write .last .out) input (c .in-Ok .n) wrote (c .if-n-input .result) (w .as-slice .result .now) (c .in-Continue-out .out .items) (c .in-Continue-out .out .len) (w .eq .result) (c .as-mut-slice .ensures .len) (c .in-Continue-out .ensures tt .made .1) (w .if-n-input .taken) (w .as-slice .ensures .value) (w .eq .ensures) (w .result-is)
+      | then-n-input w ↦ as-many bs buffer (c .write .last .out) input (c .in-Ok .n) wrote (c .if-n-input .result) (w .as-slice .result .now) (c .in-Continue-out .out .items) (c .in-Continue-out .out .len) (w .eq .result) (c .as-mut-slice .ensures .len) (c .in-Continue-out .ensures tt .made .1) (w .if-n-input .taken) (w .as-slice .ensures .value) (w .eq .ensures) (w .result-is)
       | else-n-input w ↦ other-many bs buffer (c .write .last .out) input (c .in-Ok .n) wrote (c .if-n-input .result) (w .if-n-input .left) (w .result-is)
     ]

@@ -15,8 +15,15 @@ impl Draft {
     pub fn new() -> Draft
         ensures { λ r. ⌜ rowsOf r ≡ [] ⌝ }
     {
-        let unused = Row { cost: 1, deadline: 2, period: 2 };
-        Draft { slots: [unused; 16], len: 0 }
+        let unused = Row {
+            cost: 1,
+            deadline: 2,
+            period: 2,
+        };
+        Draft {
+            slots: [unused; 16],
+            len: 0,
+        }
     }
 
     // Adds the row of these three numbers after the others, or refuses with 2 or 1.

@@ -12,7 +12,11 @@ impl Row {
         ensures { λ r. ⌜ Made (times cost deadline period) r ⌝ }
     {
         if 1 <= cost && cost <= deadline && deadline <= period && period <= LONGEST_PERIOD {
-            Ok(Row { cost, deadline, period })
+            Ok(Row {
+                cost,
+                deadline,
+                period,
+            })
         } else {
             Err(Refusal::RowOutsideLimits)
         }

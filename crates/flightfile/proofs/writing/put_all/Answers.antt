@@ -27,8 +27,7 @@ loop-item-again g c =
     let items = c .args .items .now in
     let i = c .loop-item .item-index in
     let next = encode-next f items i (c .item-item .result) (c .to-record .result) (c .loop-item-test .taken) (c .item-item .is) (c .to-record .ensures) in
-    let inv = c .loop-item .inv in
-    (
+    let inv = c .loop-item .inv in (
       overwrite-next (c .args .out .now) (c .loop-item .out) _ (c .args .at) (c .loop-item .end) _ _ _ (omega (arith, c .pre)) (inv .0) (inv .1) (c .put-end .ensures .wrote) next,
       omega (arith, c .put-end .ensures .end, inv .1, ap length next ∙ length-append _ (encode (c .to-record .result))),
     )

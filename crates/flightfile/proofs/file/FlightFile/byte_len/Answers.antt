@@ -19,14 +19,8 @@ long c =
     let rows = sym (length-map (c .rows .result .now) timesOf) ∙ ap length (c .rows .ensures) in
     omega (arith, bytes-long (rowsOf (f .rows)) (vec-items (f .requests)) (f .stop), rows, c .len .ensures, f .requests .ok .0)
 
-pub mul-result-2 : need.mul-result-2
-mul-result-2 c = record { fits = omega (arith, long c, c .args .self .now .short) }
-
-pub add-result : need.add-result
-add-result c = record { fits = omega (arith, long c, c .args .self .now .short) }
-
-pub add-result-2 : need.add-result-2
-add-result-2 c = record { fits = omega (arith, long c, c .args .self .now .short) }
+pub bytes-of-requires : need.bytes-of-requires
+bytes-of-requires c κs = omega (arith, long c, c .args .self .now .short)
 
 pub returns : need.returns
-returns c = long c
+returns c = omega (arith, c .bytes-of .ensures, long (need.at·returns c .After-len))

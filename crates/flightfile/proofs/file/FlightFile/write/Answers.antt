@@ -29,8 +29,7 @@ done c =
     let f = c .args .self .now in
     let long = file-long f (c .rows .result .now) (c .rows .ensures) (c .as-slice .result .now) (c .as-slice .ensures .value) in
     let rows = c .put-all-rows-end .ensures in
-    let requests = c .put-all-requests-end .ensures in
-    (
+    let requests = c .put-all-requests-end .ensures in (
       omega (arith, c .byte-len .ensures, c .if-out-byte-len .left),
       omega (arith, long, rows .end, requests .end, c .put .ensures .end),
       overwrite-three (c .args .out .now) _ _ _ _ _ _ _ _ _ (rows .wrote) (rows .end) (requests .wrote) (requests .end) (c .put .ensures .wrote) (file-parts f (c .rows .result .now) (c .rows .ensures) (c .as-slice .result .now) (c .as-slice .ensures .value)),

@@ -16,9 +16,8 @@ returns-in-Break-row c =
 pub returns : need.returns
 returns c =
     let draft = c .args .self .now in
-    let told = c .in-Continue-row .ensures tt in
-    (
+    let told = c .in-Continue-row .ensures tt in (
       omega (arith, length-rowsOf draft),
       told .0,
-      rows-push (draft .slots) (draft .len) (c .in-Continue-row .row) (omega (arith, draft .full)) ∙ ap (λ t. rowsOf draft ++ t ∷ []) (told .1),
+      rows-push (draft .slots) _ (draft .len) (c .in-Continue-row .row) (omega arith) (omega (arith, draft .full)) ∙ ap (λ t. rowsOf draft ++ t ∷ []) (told .1),
     )

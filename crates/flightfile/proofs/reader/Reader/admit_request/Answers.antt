@@ -12,7 +12,7 @@ use Rattle.flightfile.specs.Contents.{content}
 use Rattle.flightfile.specs.Reading.{seen}
 use Rattle.flightfile.specs.declared.record.Record.{Record}
 use Rattle.flightfile.proofs.OneMore.{last-push}
-use Rattle.flightfile.proofs.reader.Reader.ask.Needs as need
+use Rattle.flightfile.proofs.reader.Reader.admit_request.Needs as need
 
 pub returns-in-Break-push : need.returns-in-Break-push
 returns-in-Break-push c =
@@ -28,7 +28,7 @@ returns c =
     record {
       allowed = record { placed = (omega arith, c .pre .running); fit = (omega arith, omega arith) };
       seen-more = λ i. content (rowsOf (old .rows)) (items i) (sym (c .pre .running) i);
-      phase = (omega (arith, ap length items ∙ length-push (vec-items (old .requests)) q), sym (last-push 0 (vec-items (old .requests)) q) ∙ ap (lastArrival 0) (sym items));
+      phase = (omega (arith, ap length items ∙ length-push (vec-items (old .requests)) q), omega (arith, last-push 0 (vec-items (old .requests)) q, ap (lastArrival 0) items));
       input = refl;
       place = refl;
     }
