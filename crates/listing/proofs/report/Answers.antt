@@ -21,7 +21,7 @@ pub returns : need.returns
 returns c =
     let file = c .in-Ok .file in
     let said = c .in-Ok .ensures tt .answer in
-    let rows = sym (length-map (c .rows .result .now) timesOf) ∙ ap length (c .rows .ensures) in
+    let rows = sym (length-map (c .rows-rows .result .now) timesOf) ∙ ap length (c .rows-rows .ensures) in
     let same = c .in-Continue-is-written-as .ensures tt .1 (sym (said .3)) in
     let found = c .found-word-found .ensures ∙ cond-true _ (codes "same") (codes "differs") same in
     reported (c .args .input .now) (contentOf file) (string-bytes (c .in-Continue-text .text)) (string-bytes (c .push-summary .last .text)) (c .found-word-found .result .now) _ _ said (c .in-Continue-text .ensures tt) (c .in-Continue-push-summary .ensures tt) (omega (arith, rows)) (omega (arith, c .len-requests .ensures, file .requests .ok .0)) found
