@@ -1,14 +1,13 @@
 -- The first record of some bytes: it is there or the bytes are unreadable, never both, and there is only one.
-use mathlib.Core.Bool.{Bool, true, false, cond}
+use mathlib.Core.Bool.{Bool, false, cond}
 use mathlib.Core.List.{List, [], _∷_, _++_}
 use mathlib.Core.Logic.{_⊎_, inl, inr}
-use mathlib.Core.Path.{_≡_, refl, sym, ap, subst, _∙_}
+use mathlib.Core.Path.{_≡_, refl, sym, ap, _∙_}
 use Prim.Native.Nat.{ℕ, zero, suc, _+_, _*_, _/_, _%_, _^_, _≤_, _<_}
 use native.Mathlib.Nat.{add-zero}
 use native.Mathlib.Omega.{arith}
 use lib.Arith.{digits-div, digits-mod}
-use lib.Dec.{eqb}
-use lib.ListN.{length, getD, drop, length-append}
+use lib.ListN.{length, getD, drop}
 use lib.Seq.{drop-cons}
 use Rattle.std.proofs.shelf.Tests.{cases-eq, cases-lt, ne-eqb}
 use Rattle.std.specs.declared.option.Option.{Option}
@@ -17,7 +16,7 @@ use Rattle.model.specs.declared.refusal.Refusal.{Refusal}
 use Rattle.model.specs.declared.refusal.Refusal.the-variants.{EndInsideRecord, UnknownKind}
 use Rattle.flightfile.specs.declared.record.Record.{Record}
 use Rattle.flightfile.specs.declared.record.Request.{Request}
-use Rattle.flightfile.specs.Records.{Bytes, littleEndian, encode, Encodable, bodyLength, Unknown, Cut, Unreadable, Begins}
+use Rattle.flightfile.specs.Records.{Bytes, littleEndian, bodyLength, Unreadable, Begins}
 
 -- The k bytes from place i on.
 abbrev reads : List ℕ → ℕ → ℕ → List ℕ

@@ -2,9 +2,9 @@
 use mathlib.Core.List.{List, [], _∷_, _++_, map, append-nil, append-assoc}
 use mathlib.Core.Logic.{_⊎_, inl, inr}
 use mathlib.Core.Path.{_≡_, refl, sym, ap, subst, _∙_}
-use Prim.Native.Nat.{ℕ, zero, suc, _+_, _^_, _<_, _≤_}
+use Prim.Native.Nat.{ℕ, zero, suc, _+_, _<_, _≤_}
 use native.Mathlib.Omega.{arith}
-use lib.ListN.{length, getD, length-append}
+use lib.ListN.{length, length-append}
 use Rattle.std.proofs.shelf.Lists.{length-push}
 use Rattle.std.proofs.shelf.Tests.{cases-lt}
 use Rattle.std.specs.declared.option.Option.{Option}
@@ -16,9 +16,10 @@ use Rattle.model.specs.declared.refusal.Refusal.the-variants.{FileTooLong, NoSt
 use Rattle.model.specs.Rows.{Times, InLimits}
 use Rattle.flightfile.specs.declared.record.Record.{Record}
 use Rattle.flightfile.specs.declared.record.Request.{Request}
-use Rattle.flightfile.specs.Answers.{lastArrival, Allowed, extend, Unlawful, Wrong, Unstopped, Front, Answer, says, refused, Answers, OneAnswer}
+use Rattle.flightfile.specs.Answers.{lastArrival, Unlawful, Wrong, Unstopped, Front, Answer, says, refused, Answers, OneAnswer, LongestRun}
 use Rattle.flightfile.specs.Contents.{Content, content, rowRecord, records, bytes, RequestLawful, NotFalling, StopInRange, Lawful}
 use Rattle.flightfile.specs.Records.{Bytes, encode, Encodable, Unreadable, Begins}
+use Rattle.flightfile.specs.Progress.{Allowed, extend}
 use Rattle.flightfile.proofs.FirstRecord.{begins-same, begins-readable, begins-or-not}
 use Rattle.flightfile.proofs.OneMore.{bytes-extend, last-push, lawful-extend, allowed-or-not, allowed-not-unlawful, unlawful-same}
 
@@ -76,6 +77,16 @@ one-way (x ∷ xs) [] c d e r s g h same p q =
 one-way (x ∷ xs) (y ∷ ys) c d e r s g h same p q =
     let first = begins-same _ x y _ _ (begins-more x xs r (g .0)) (subst (λ l. Begins l y (joined encode ys ++ s)) (sym same) (begins-more y ys s (h .0))) in
     one-way xs ys (extend c x) d e r s (g .2) (subst (λ z. Goes (extend c z) ys e) (sym (first .0)) (h .2)) (first .1) p q
+
+-- Where one way halts, no other has gone farther.
+no-farther : (xs ys : List Record) (c d e : Content) (r s : List ℕ) → Goes c xs d → Goes c ys e → joined encode xs ++ r ≡ joined encode ys ++ s → Halted e s → length (joined encode xs) ≤ length (joined encode ys)
+no-farther [] ys c d e r s g h same q = omega arith
+no-farther (x ∷ xs) [] c d e r s g h same q =
+    absurd (q x (joined encode xs ++ r) (subst (λ l. Begins l x (joined encode xs ++ r)) same (begins-more x xs r (g .0))) (subst (λ z. Allowed z x) h (g .1)))
+no-farther (x ∷ xs) (y ∷ ys) c d e r s g h same q =
+    let first = begins-same _ x y _ _ (begins-more x xs r (g .0)) (subst (λ l. Begins l y (joined encode ys ++ s)) (sym same) (begins-more y ys s (h .0))) in
+    let tail = no-farther xs ys (extend c x) d e r s (g .2) (subst (λ z. Goes (extend c z) ys e) (sym (first .0)) (h .2)) (first .1) q in
+    omega (arith, tail, ap (λ z. length (encode z)) (first .0), length-append (encode x) (joined encode xs), length-append (encode y) (joined encode ys))
 
 one-run : (bs : List ℕ) (c d : Content) (r s : List ℕ) → Lawful c → Lawful d → bs ≡ bytes c ++ r → bs ≡ bytes d ++ s → Halted c r → Halted d s → (c ≡ d) × (r ≡ s)
 one-run bs c d r s h k p q = one-way (records c) (records d) (content [] [] None) c d r s (lawful-goes c h) (lawful-goes d k) (sym p ∙ q)
@@ -216,3 +227,10 @@ one-answer bs t = go (cases-lt 65536 (length bs))
     go : (65536 < length bs) ⊎ (length bs ≤ 65536) → (a : Answer) × Answers bs a × ((b : Answer) → Answers bs b → b ≡ a)
     go (inl long) = with-one (refused FileTooLong 0, inl (long, refl, refl))
     go (inr short) = with-one (go-on bs short (length bs) (content [] [] None) bs (omega arith) t (record { few = omega arith; rows = tt; requests = tt; order = tt; stop = tt }) refl)
+
+pub longest-run : LongestRun
+longest-run bs e place short (inl w) run rest h t = absurd (omega (arith, w .0))
+longest-run bs e place short (inr w) run rest h t =
+    let front = w .1 .2 in
+    let most = no-farther (records run) (records (w .1 .0)) (content [] [] None) run (w .1 .0) rest (w .1 .1) (lawful-goes run h) (lawful-goes (w .1 .0) (front .lawful)) (sym t ∙ front .split) (ends-halted (w .1 .0) (w .1 .1) e (w .1 .3)) in
+    omega (arith, most, front .ends)

@@ -1,7 +1,7 @@
 -- One record more: a record that is allowed after a lawful run makes a longer one, and each record is allowed or refused.
 use mathlib.Core.List.{List, [], _∷_, _++_, map, append-nil, append-assoc}
 use mathlib.Core.Logic.{_⊎_, inl, inr}
-use mathlib.Core.Path.{_≡_, refl, sym, ap, subst, _∙_}
+use mathlib.Core.Path.{_≡_, refl, sym, ap, _∙_}
 use Prim.Native.Nat.{ℕ, _+_, _<_, _≤_}
 use native.Mathlib.Omega.{arith}
 use lib.ListN.{length}
@@ -10,16 +10,17 @@ use Rattle.std.proofs.shelf.Lists.{length-push, map-push}
 use Rattle.std.proofs.shelf.Tests.{cases-lt}
 use Rattle.std.specs.declared.option.Option.{Option}
 use Rattle.std.specs.declared.option.Option.the-variants.{Some, None}
-use Rattle.std.specs.shelf.Lists.{All, joined}
+use Rattle.std.specs.shelf.Lists.{joined}
 use Rattle.std.specs.Vec.{listOf}
 use Rattle.model.specs.declared.refusal.Refusal.{Refusal}
 use Rattle.model.specs.declared.refusal.Refusal.the-variants.{RowOutsideLimits, SeventeenthRow, TicksOutsideRange, RequestOutsideLimits, RecordOutOfPlace}
 use Rattle.model.specs.Rows.{Times, times, InLimits}
 use Rattle.flightfile.specs.declared.record.Record.{Record}
 use Rattle.flightfile.specs.declared.record.Request.{Request}
-use Rattle.flightfile.specs.Answers.{lastArrival, InPlace, Fit, Allowed, extend, Unfit, Unlawful}
-use Rattle.flightfile.specs.Contents.{Content, content, rowRecord, records, bytes, TicksInLimits, RequestLawful, NotFalling, StopInRange, Lawful}
+use Rattle.flightfile.specs.Answers.{lastArrival, InPlace, Unfit, Unlawful}
+use Rattle.flightfile.specs.Contents.{Content, rowRecord, records, bytes, TicksInLimits, RequestLawful, NotFalling, StopInRange, Lawful}
 use Rattle.flightfile.specs.Records.{encode, Encodable}
+use Rattle.flightfile.specs.Progress.{Fit, Allowed, extend}
 use Rattle.flightfile.proofs.Joined.{joined-push}
 
 records-extend : (c : Content) (x : Record) → InPlace c x → records (extend c x) ≡ records c ++ x ∷ []

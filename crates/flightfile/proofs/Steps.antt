@@ -1,24 +1,24 @@
 -- One step of the reader: a record taken in makes the run seen longer, and what is wrong with one is the answer.
-use mathlib.Core.List.{List, [], _∷_, _++_, append-assoc}
-use mathlib.Core.Logic.{_⊎_, inl, inr}
+use mathlib.Core.List.{List, _++_, append-assoc}
+use mathlib.Core.Logic.{inl, inr}
 use mathlib.Core.Path.{_≡_, refl, sym, ap, subst, _∙_}
-use Prim.Native.Nat.{ℕ, _+_, _-_, _<_, _≤_}
+use Prim.Native.Nat.{ℕ, _+_, _-_, _<_}
 use native.Mathlib.Omega.{arith}
 use denote.Ref.{RefT}
 use lib.ListN.{length, drop, length-append}
 use Rattle.std.proofs.shelf.Lists.{drop-at}
 use Rattle.std.specs.declared.result.Result.{Result}
 use Rattle.std.specs.declared.result.Result.the-variants.{Ok, Err}
-use Rattle.std.specs.Of.Vec.{vec-items}
 use Rattle.model.specs.declared.refusal.PlacedRefusal.{PlacedRefusal}
 use Rattle.model.specs.declared.refusal.Refusal.{Refusal}
 use Rattle.flightfile.specs.declared.reading.ReadError.{ReadError}
 use Rattle.flightfile.specs.declared.reader.Reader.{Reader}
 use Rattle.flightfile.specs.declared.record.Record.{Record}
-use Rattle.flightfile.specs.Answers.{Allowed, extend, Front}
-use Rattle.flightfile.specs.Contents.{Content, bytes, Lawful}
-use Rattle.flightfile.specs.Reading.{refusalAt, placedAt, seen, ahead, Reached, WantsMemory, Sofar, Taken, Admitted, Stepped, Reads}
+use Rattle.flightfile.specs.Answers.{Front}
+use Rattle.flightfile.specs.Contents.{Content, bytes}
+use Rattle.flightfile.specs.Reading.{Reads}
 use Rattle.flightfile.specs.Records.{encode, Unreadable, Begins, Split}
+use Rattle.flightfile.specs.Progress.{Allowed, extend, refusalAt, placedAt, seen, ahead, Sofar, Taken, Admitted, Stepped}
 use Rattle.flightfile.proofs.OneAnswer.{record-long}
 use Rattle.flightfile.proofs.OneMore.{bytes-extend, lawful-extend}
 

@@ -8,10 +8,10 @@ use Rattle.std.specs.declared.option.Option.the-variants.{Some, None}
 use Rattle.model.specs.declared.refusal.Refusal.{Refusal}
 use Rattle.model.specs.declared.refusal.Refusal.the-variants.{TicksOutsideRange, RequestOutsideLimits, FileTooLong, RecordOutOfPlace, NoStopRecord}
 use Rattle.model.specs.Drafts.{Unaddable}
-use Rattle.model.specs.Rows.{times, InLimits}
+use Rattle.model.specs.Rows.{times}
 use Rattle.flightfile.specs.declared.record.Record.{Record}
 use Rattle.flightfile.specs.declared.record.Request.{Request}
-use Rattle.flightfile.specs.Contents.{Content, content, bytes, TicksInLimits, StopInRange, Lawful}
+use Rattle.flightfile.specs.Contents.{Content, bytes, TicksInLimits, StopInRange, Lawful}
 use Rattle.flightfile.specs.Records.{Bytes, Unreadable, Begins}
 
 -- The arrival of the last request, or a if there is none.
@@ -25,24 +25,6 @@ abbrev pub InPlace : Content → Record → Type 0
 InPlace c (Record.Row _ _ _) = (c .requests ≡ []) × (c .stop ≡ None)
 InPlace c (Record.Request q) = (lastArrival 0 (c .requests) ≤ q .arrival) × (c .stop ≡ None)
 InPlace c (Record.Stop _) = c .stop ≡ None
-
--- A record in its place is within its own limits: a row that a draft of the rows so far takes, a
--- request of 1 to 60,000 ticks, a stop in its range.
-abbrev pub Fit : Content → Record → Type 0
-Fit c (Record.Row cost deadline period) = (length (c .rows) < 16) × InLimits (times cost deadline period)
-Fit c (Record.Request q) = TicksInLimits q
-Fit c (Record.Stop n) = StopInRange n
-
--- The record may follow these.
-pub record Allowed (c : Content) (x : Record) : Type 0 where
-  pub placed : InPlace c x
-  pub fit : Fit c x
-
--- These records and then that one.
-abbrev pub extend : Content → Record → Content
-extend c (Record.Row cost deadline period) = content (c .rows ++ times cost deadline period ∷ []) (c .requests) (c .stop)
-extend c (Record.Request q) = content (c .rows) (c .requests ++ q ∷ []) (c .stop)
-extend c (Record.Stop n) = content (c .rows) (c .requests) (Some n)
 
 -- What a record in its place is refused with for its own sake.
 abbrev pub Unfit : Content → Record → Refusal → Type 0
@@ -68,6 +50,7 @@ pub record Front (bs : List ℕ) (run : Content) (place : ℕ) (rest : List ℕ)
   pub split : bs ≡ bytes run ++ rest
   pub ends : place ≡ length (bytes run)
 
+-- What reading comes to.
 pub data Answer : Type 0 where
   says : Content → Answer
   refused : Refusal → ℕ → Answer
@@ -76,7 +59,8 @@ pub data Answer : Type 0 where
 abbrev pub Says : List ℕ → Content → Type 0
 Says bs c = (length bs ≤ 65536) × Lawful c × ((n : ℕ) × (c .stop ≡ Some n)) × (bs ≡ bytes c)
 
--- Why a file is refused, and where: too long at 0; or wrong, or at its end, after a lawful run of records.
+-- Why a file is refused, and where: too long, at 0; or after a lawful run of records what follows is
+-- wrong, or nothing follows and there was no stop.
 abbrev pub Refuses : List ℕ → Refusal → ℕ → Type 0
 Refuses bs e place =
     ((65536 < length bs) × (e ≡ FileTooLong) × (place ≡ 0))
@@ -89,3 +73,7 @@ Answers bs (refused e place) = Refuses bs e place
 -- Every byte string has an answer, and no other.
 abbrev pub OneAnswer : Type 0
 OneAnswer = (bs : List ℕ) → Bytes bs → (a : Answer) × Answers bs a × ((b : Answer) → Answers bs b → b ≡ a)
+
+-- The place of a refusal is where the longest lawful run of records ends, unless the file is too long.
+abbrev pub LongestRun : Type 0
+LongestRun = (bs : List ℕ) (e : Refusal) (place : ℕ) → length bs ≤ 65536 → Refuses bs e place → (run : Content) (rest : List ℕ) → Lawful run → bs ≡ bytes run ++ rest → length (bytes run) ≤ place

@@ -1,10 +1,8 @@
 -- Contents: what a flight file says, which contents are lawful, and their bytes.
 use mathlib.Core.List.{List, [], _∷_, _++_, map}
-use mathlib.Core.Path.{_≡_}
 use Prim.Native.Nat.{ℕ, _^_, _<_, _≤_}
 use lib.ListN.{length}
 use Rattle.std.specs.declared.option.Option.{Option}
-use Rattle.std.specs.declared.option.Option.the-variants.{Some, None}
 use Rattle.std.specs.shelf.Lists.{All, joined}
 use Rattle.std.specs.Vec.{listOf}
 use Rattle.model.specs.Rows.{Times, InLimits}

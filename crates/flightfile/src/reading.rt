@@ -1,5 +1,5 @@
 // Reading a flight file.
-ghost use Rattle.flightfile.specs.Answers.{OneAnswer};
+ghost use Rattle.flightfile.specs.Answers.{OneAnswer, LongestRun};
 ghost use Rattle.flightfile.specs.Reading.{Reads};
 ghost use Rattle.flightfile.specs.declared.reading.ReadError.the-variants.{Refused as Rejected, NoMemory};
 ghost use mathlib.Core.Path.{_≡_};
@@ -43,6 +43,7 @@ impl FlightFile {
     pub fn read(heap: Global, input: &[u8]) -> Result<FlightFile, ReadError>
         ensures answer { λ r. ⌜ Reads (now (input .entry)) r ⌝ }
         ensures one { λ _. ⌜ OneAnswer ⌝ }
+        ensures longest { λ _. ⌜ LongestRun ⌝ }
     {
         if input.len() > MOST_BYTES {
             return Err(ReadError::Refused(PlacedRefusal {

@@ -1,11 +1,10 @@
 -- The lines of records in turn: one more, and those of a whole file.
 use mathlib.Core.List.{List, [], _∷_, _++_, map, append-nil, append-assoc}
-use mathlib.Core.Path.{_≡_, refl, sym, ap, _∙_}
+use mathlib.Core.Path.{_≡_, sym, ap, _∙_}
 use Prim.Native.Nat.{ℕ, _+_, _<_}
 use lib.Chars.{codes}
 use lib.ListN.{getD, length, take}
 use Rattle.std.proofs.shelf.Lists.{joined-more, map-more}
-use Rattle.std.specs.declared.option.Option.the-variants.{Some}
 use Rattle.std.specs.Of.Vec.{vec-items}
 use Rattle.std.specs.shelf.Lists.{joined}
 use Rattle.model.specs.declared.row.Row.{Row}

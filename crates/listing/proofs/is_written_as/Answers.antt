@@ -1,4 +1,3 @@
-use native.Mathlib.Omega.{arith}
 use Rattle.flightfile.specs.Contents.{bytes}
 use Rattle.flightfile.specs.Reading.{contentOf}
 use Rattle.listing.proofs.Rewritten.{as-many, other-many}

@@ -1,7 +1,7 @@
+use Rattle.flightfile.specs.Progress.{Sofar}
 use Prim.Native.Nat.{_-_}
 use mathlib.Core.Path.{_≡_}
 use lib.ListN.{length}
-use Rattle.flightfile.specs.Reading.{Sofar}
 use Rattle.flightfile.proofs.file.FlightFile.read.Given as given
 
 abbrev pub Inv-loop-reader : given.InvT-loop-reader

@@ -7,10 +7,8 @@ use Rattle.std.proofs.shelf.Parts.{pushed}
 use Rattle.std.proofs.shelf.Results.{err-from-errBy}
 use Rattle.std.specs.Of.Vec.{vec-items}
 use Rattle.model.specs.Drafts.{rowsOf}
-use Rattle.flightfile.specs.Answers.{lastArrival, Allowed}
+use Rattle.flightfile.specs.Answers.{lastArrival}
 use Rattle.flightfile.specs.Contents.{content}
-use Rattle.flightfile.specs.Reading.{seen}
-use Rattle.flightfile.specs.declared.record.Record.{Record}
 use Rattle.flightfile.proofs.OneMore.{last-push}
 use Rattle.flightfile.proofs.reader.Reader.admit_request.Needs as need
 

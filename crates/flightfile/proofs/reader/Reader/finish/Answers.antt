@@ -1,6 +1,6 @@
-use mathlib.Core.List.{[], _++_, append-nil}
+use mathlib.Core.List.{_++_, append-nil}
 use mathlib.Core.Logic.{_⊎_, inl, inr}
-use mathlib.Core.Path.{_≡_, refl, sym, ap, subst, _∙_}
+use mathlib.Core.Path.{_≡_, refl, ap, subst, _∙_}
 use Prim.Native.Nat.{ℕ, _≤_}
 use native.Mathlib.Omega.{arith}
 use lib.ListN.{length}
@@ -10,8 +10,8 @@ use Rattle.std.specs.Of.Vec.{vec-items}
 use Rattle.model.specs.Drafts.{rowsOf}
 use Rattle.flightfile.specs.declared.reader.Phase.{Phase}
 use Rattle.flightfile.specs.declared.reader.Reader.{Reader}
-use Rattle.flightfile.specs.Contents.{Content, content, bytes, Lawful}
-use Rattle.flightfile.specs.Reading.{stopOf, seen, Sofar}
+use Rattle.flightfile.specs.Contents.{content, bytes, Lawful}
+use Rattle.flightfile.specs.Progress.{stopOf, seen, Sofar}
 use Rattle.flightfile.proofs.reader.Reader.finish.Needs as need
 
 -- All is read: the bytes seen are the input.

@@ -1,9 +1,9 @@
 use mathlib.Core.Logic.{inl}
-use mathlib.Core.Path.{_≡_, sym, subst}
+use mathlib.Core.Path.{subst}
 use Rattle.std.proofs.shelf.Lists.{take-rest}
 use Rattle.std.proofs.shelf.Results.{err-from-errBy}
 use Rattle.flightfile.specs.Records.{Split, Begins}
-use Rattle.flightfile.specs.Reading.{ahead}
+use Rattle.flightfile.specs.Progress.{ahead}
 use Rattle.flightfile.proofs.Steps.{stepped, not-admitted, placed-ok, placed-err}
 use Rattle.flightfile.proofs.reader.Reader.step.Needs as need
 use Rattle.flightfile.proofs.reader.Reader.step.Needs.{In-Continue-record}
