@@ -66,6 +66,7 @@ Refuses bs e place =
     ((65536 < length bs) × (e ≡ FileTooLong) × (place ≡ 0))
     ⊎ ((length bs ≤ 65536) × ((run : Content) × (rest : List ℕ) × Front bs run place rest × (Wrong run rest e ⊎ Unstopped run rest e)))
 
+-- The bytes have this answer.
 abbrev pub Answers : List ℕ → Answer → Type 0
 Answers bs (says c) = Says bs c
 Answers bs (refused e place) = Refuses bs e place

@@ -16,9 +16,11 @@ pub record Content : Type 0 where
   pub requests : List Request
   pub stop : Option ℕ
 
+-- The content of these parts.
 abbrev pub content : List Times → List Request → Option ℕ → Content
 content rs qs s = record { rows = rs; requests = qs; stop = s }
 
+-- The record of a row.
 abbrev pub rowRecord : Times → Record
 rowRecord t = Record.Row (t .cost) (t .deadline) (t .period)
 

@@ -40,13 +40,16 @@ extend c (Record.Row cost deadline period) = content (c .rows ++ times cost dead
 extend c (Record.Request q) = content (c .rows) (c .requests ++ q ∷ []) (c .stop)
 extend c (Record.Stop n) = content (c .rows) (c .requests) (Some n)
 
+-- A refusal with its place.
 abbrev pub refusalAt : Refusal → ℕ → PlacedRefusal
 refusalAt e n = record { refusal = e; place = n }
 
+-- The same result, its refusal with a place.
 abbrev pub placedAt : {T : Type 0} → Result T Refusal → ℕ → Result T PlacedRefusal
 placedAt (Ok x) n = Ok x
 placedAt (Err e) n = Err (refusalAt e n)
 
+-- The stop that has been read, if it has.
 abbrev pub stopOf : Phase → Option ℕ
 stopOf Phase.Rows = None
 stopOf (Phase.Requests last) = None
@@ -73,6 +76,7 @@ pub record Sofar (r : Reader) : Type 0 where
   pub front : Front (r .input .now) (seen r) (r .place) (ahead r)
   pub phase : Reached (r .phase) (vec-items (r .requests))
 
+-- The record was allowed and has been taken in; the reader still stands at its place.
 pub record Taken (old : Reader) (x : Record) (new : Reader) : Type 0 where
   pub allowed : Allowed (seen old) x
   pub seen-more : seen new ≡ extend (seen old) x

@@ -59,6 +59,7 @@ pub record Begins (bs : List ℕ) (x : Record) (rest : List ℕ) : Type 0 where
   pub encodable : Encodable x
   pub split : bs ≡ encode x ++ rest
 
+-- The first record and the rest, or why there is none.
 abbrev pub Split : List ℕ → Result (Record × RefT (List ℕ)) Refusal → Type 0
 Split bs (Ok p) = Begins bs (p .0) (p .1 .now)
 Split bs (Err e) = Unreadable bs e

@@ -13,6 +13,7 @@ pub record Times : Type 0 where
   pub deadline : ℕ
   pub period : ℕ
 
+-- The numbers of these three.
 abbrev pub times : ℕ → ℕ → ℕ → Times
 times c d t = record { cost = c; deadline = d; period = t }
 
