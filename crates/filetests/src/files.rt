@@ -2,6 +2,7 @@
 use flightfile::file::FlightFile;
 use flightfile::reading::ReadError;
 use flightfile::reading::ReadErrorDebug;
+use flightfile::record::Request;
 use model::refusal::Refusal;
 use model::refusal::RefusalDebug;
 use model::refusal::RefusalPartialEq;
@@ -29,7 +30,7 @@ enum Outcome {
 }
 
 fn answer(heap: Global, bytes: &[u8]) -> Outcome {
-    match FlightFile::read(heap, bytes) {
+    match FlightFile::read(Vec::new(heap), bytes) {
         Ok(file) => Outcome::Says {
             rows: file.rows.rows().len(),
             requests: file.requests.len(),
@@ -245,7 +246,13 @@ fn the_example_cut_at_every_byte(rt: LibcRuntime) -> Result<(), Fail> {
 
 #[test]
 fn a_file_is_written_as_it_was_read(rt: LibcRuntime) -> Result<(), Fail> {
-    let file = FlightFile::read(rt.alloc(), &EXAMPLE)?;
+    // what the room holds is let go
+    let old = Request {
+        arrival: 9,
+        number: 9,
+        ticks: 9,
+    };
+    let file = FlightFile::read(vec![in rt.alloc(); old]?, &EXAMPLE)?;
     check_eq(file.byte_len(), 28)?;
     let mut exact = [9u8; 28];
     check_eq(file.write(&mut exact)?, 28)?;

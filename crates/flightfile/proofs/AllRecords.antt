@@ -11,6 +11,7 @@ use Rattle.std.specs.declared.result.Result.{Result}
 use Rattle.std.specs.declared.result.Result.the-variants.{Ok, Err}
 use Rattle.std.specs.Of.Vec.{vec-items}
 use Rattle.std.specs.shelf.Lists.{joined}
+use Rattle.std.specs.Vec.{listOf}
 use Rattle.model.specs.Drafts.{rowsOf}
 use Rattle.model.specs.declared.refusal.Refusal.{Refusal}
 use Rattle.model.specs.declared.row.Row.{Row}
@@ -50,6 +51,14 @@ rows-long (t ∷ ts) = omega (arith, rows-long ts)
 requests-long : (qs : List Request) → length (encodeAll Record.Request qs) ≡ 9 * length qs
 requests-long [] = refl
 requests-long (q ∷ qs) = omega (arith, requests-long qs)
+
+-- The requests of a content are a part of its bytes.
+pub requests-fit : (c : Content) → 9 * length (c .requests) ≤ length (bytes c)
+requests-fit c =
+    let rows : List Record = map rowRecord (c .rows) in
+    let asked : List Record = map Record.Request (c .requests) in
+    let stop : List Record = map Record.Stop (listOf (c .stop)) in
+    omega (arith, requests-long (c .requests), ap length (joined-append encode rows (asked ++ stop)), length-append (joined encode rows) (joined encode (asked ++ stop)), ap length (joined-append encode asked stop), length-append (joined encode asked) (joined encode stop))
 
 -- The bytes of a whole content: its rows', its requests' and its stop's.
 pub bytes-parts : (ts : List Times) (qs : List Request) (n : ℕ) → bytes (content ts qs (Some n)) ≡ encodeAll rowRecord ts ++ (encodeAll Record.Request qs ++ encode (Record.Stop n))

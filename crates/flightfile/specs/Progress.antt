@@ -8,7 +8,7 @@ use Rattle.std.specs.declared.option.Option.{Option}
 use Rattle.std.specs.declared.option.Option.the-variants.{Some, None}
 use Rattle.std.specs.declared.result.Result.{Result}
 use Rattle.std.specs.declared.result.Result.the-variants.{Ok, Err}
-use Rattle.std.specs.Of.Vec.{vec-items}
+use Rattle.std.specs.Of.Vec.{vec-items, vec-cap}
 use Rattle.model.specs.declared.refusal.PlacedRefusal.{PlacedRefusal}
 use Rattle.model.specs.declared.refusal.Refusal.{Refusal}
 use Rattle.model.specs.Drafts.{rowsOf}
@@ -83,15 +83,16 @@ pub record Taken (old : Reader) (x : Record) (new : Reader) : Type 0 where
   pub phase : Reached (new .phase) (vec-items (new .requests))
   pub input : new .input .now ≡ old .input .now
   pub place : new .place ≡ old .place
+  pub room : vec-cap (old .requests) ≤ vec-cap (new .requests)
 
 -- The reader takes a record in, or refuses it at its place.
 abbrev pub Admitted : Reader → Record → Result (Unit {0}) ReadError → Reader → Type 0
 Admitted old x (Ok _) new = Taken old x new
 Admitted old x (Err (ReadError.Refused p)) new = Unlawful (seen old) x (p .refusal) × (p .place ≡ old .place)
-Admitted old x (Err ReadError.NoMemory) new = Allowed (seen old) x × (0 < length (extend (seen old) x .requests))
+Admitted old x (Err ReadError.NoMemory) new = Allowed (seen old) x × (vec-cap (old .requests) < length (extend (seen old) x .requests))
 
 -- The reader reads the next record, or says what is wrong with it.
 abbrev pub Stepped : Reader → Result (Unit {0}) ReadError → Reader → Type 0
-Stepped old (Ok _) new = Sofar new × (new .input .now ≡ old .input .now) × (old .place < new .place)
+Stepped old (Ok _) new = Sofar new × (new .input .now ≡ old .input .now) × (old .place < new .place) × (vec-cap (old .requests) ≤ vec-cap (new .requests))
 Stepped old (Err (ReadError.Refused p)) new = Wrong (seen old) (ahead old) (p .refusal) × (p .place ≡ old .place)
-Stepped old (Err ReadError.NoMemory) new = WantsMemory (old .input .now)
+Stepped old (Err ReadError.NoMemory) new = WantsMemory (vec-cap (old .requests)) (old .input .now)

@@ -1,6 +1,7 @@
 -- Reading: what `read` answers.
 use mathlib.Core.List.{List}
-use Prim.Native.Nat.{ℕ, _<_}
+use mathlib.Core.Path.{_≡_}
+use Prim.Native.Nat.{ℕ, _<_, _≤_}
 use lib.ListN.{length}
 use Rattle.std.specs.declared.option.Option.the-variants.{Some}
 use Rattle.std.specs.declared.result.Result.{Result}
@@ -16,12 +17,17 @@ use Rattle.flightfile.specs.Contents.{Content, content}
 abbrev pub contentOf : FlightFile → Content
 contentOf f = content (rowsOf (f .rows)) (vec-items (f .requests)) (Some (f .stop))
 
--- Memory can fail only where there is a request to keep: a lawful run of records has one.
-abbrev pub WantsMemory : List ℕ → Type 0
-WantsMemory bs = (run : Content) × (place : ℕ) × (rest : List ℕ) × Front bs run place rest × (0 < length (run .requests))
+-- The file asks for memory for more than `room` requests: a lawful run of its records has so many.
+abbrev pub WantsMemory : ℕ → List ℕ → Type 0
+WantsMemory room bs = (length bs ≤ 65536) × ((run : Content) × (place : ℕ) × (rest : List ℕ) × Front bs run place rest × (room < length (run .requests)))
 
--- The answer to the bytes of a file, but for want of memory.
-abbrev pub Reads : List ℕ → Result FlightFile ReadError → Type 0
-Reads bs (Ok f) = Says bs (contentOf f)
-Reads bs (Err (ReadError.Refused p)) = Refuses bs (p .refusal) (p .place)
-Reads bs (Err ReadError.NoMemory) = WantsMemory bs
+-- What is answered to the bytes of a file with memory for `room` requests at hand: their one answer, or
+-- want of memory if they ask for more.
+abbrev pub Reads : ℕ → List ℕ → Result FlightFile ReadError → Type 0
+Reads room bs (Ok f) = Says bs (contentOf f)
+Reads room bs (Err (ReadError.Refused p)) = Refuses bs (p .refusal) (p .place)
+Reads room bs (Err ReadError.NoMemory) = WantsMemory room bs
+
+-- Memory for 7,281 requests is enough for every file.
+abbrev pub Enough : ℕ → Result FlightFile ReadError → Type 0
+Enough room r = 7281 ≤ room → r ≡ Err ReadError.NoMemory → ⊥

@@ -3,7 +3,7 @@
 ghost use mathlib.Core.Path.{_≡_};
 ghost use lib.ListN.{length};
 ghost use Prim.Native.Nat.{_<_, _≤_};
-ghost use Rattle.std.specs.Of.Vec.{vec-items};
+ghost use Rattle.std.specs.Of.Vec.{vec-items, vec-cap};
 ghost use Rattle.std.specs.declared.option.Option.the-variants.{None};
 ghost use Rattle.flightfile.specs.Reading.{Reads};
 ghost use Rattle.flightfile.specs.Answers.{lastArrival};
@@ -17,7 +17,6 @@ use crate::record::Request;
 use model::draft::Draft;
 use model::refusal::PlacedRefusal;
 use model::refusal::Refusal;
-use std::alloc::Global;
 
 // The most ticks of a request.
 const MOST_TICKS: u16 = 60_000;
@@ -54,18 +53,20 @@ fn placed<T>(result: Result<T, Refusal>, place: usize) -> Result<T, PlacedRefusa
 }
 
 impl<'a> Reader<'a> {
-    // Before the first record.
-    pub(crate) fn new(heap: Global, input: &'a [u8]) -> Reader<'a>
+    // Before the first record. The requests will be kept in `room`, whatever it holds now.
+    pub(crate) fn new(mut room: Vec<Request>, input: &'a [u8]) -> Reader<'a>
         requires { ⌜ length (now input) ≤ 65536 ⌝ }
         ensures sofar { λ r. ⌜ Sofar r ⌝ }
         ensures over { λ r. ⌜ now (r .input) ≡ now (input .entry) ⌝ }
+        ensures room { λ r. ⌜ vec-cap room ≤ vec-cap (r .requests) ⌝ }
     {
+        room.clear();
         Reader {
             input,
             place: 0,
             phase: Phase::Rows,
             rows: Draft::new(),
-            requests: Vec::new(heap),
+            requests: room,
         }
     }
 
@@ -157,7 +158,7 @@ impl<'a> Reader<'a> {
     pub(crate) fn finish(self) -> Result<FlightFile, ReadError>
         requires sofar { ⌜ Sofar self ⌝ }
         requires whole { ⌜ length (now (self .input)) ≤ self .place ⌝ }
-        ensures { λ r. ⌜ Reads (now (self .entry .input)) r ⌝ }
+        ensures { λ r. ⌜ Reads (vec-cap (self .entry .requests)) (now (self .entry .input)) r ⌝ }
     {
         let Reader {
             input: _,

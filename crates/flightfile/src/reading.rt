@@ -1,21 +1,22 @@
 // Reading a flight file.
 ghost use Rattle.flightfile.specs.Answers.{OneAnswer, LongestRun};
-ghost use Rattle.flightfile.specs.Reading.{Reads};
+ghost use Rattle.flightfile.specs.Reading.{Reads, Enough};
 ghost use Rattle.flightfile.specs.declared.reading.ReadError.the-variants.{Refused as Rejected, NoMemory};
+ghost use Rattle.std.specs.Of.Vec.{vec-cap};
 ghost use mathlib.Core.Path.{_≡_};
 use crate::file::FlightFile;
 use crate::reader::Reader;
+use crate::record::Request;
 use model::refusal::PlacedRefusal;
 use model::refusal::PlacedRefusalDebug;
 use model::refusal::PlacedRefusalPartialEq;
 use model::refusal::Refusal;
-use std::alloc::Global;
 use std::alloc::Refused;
 
 // The longest flight file, in bytes.
 pub const MOST_BYTES: usize = 65_536;
 
-// Why there is no content: the file is refused, or there was no memory for its requests.
+// Why there is no content: the file is refused, or there was no memory for all its requests.
 #[derive(Clone, Copy, Debug, PartialEq, Eq)]
 pub enum ReadError {
     Refused(PlacedRefusal),
@@ -39,9 +40,11 @@ pub impl<T: Drop> From<Refused<T>> for ReadError as ReadErrorFromRefused {
 }
 
 impl FlightFile {
-    // The content of the file, or the first thing that is wrong with it and where.
-    pub fn read(heap: Global, input: &[u8]) -> Result<FlightFile, ReadError>
-        ensures answer { λ r. ⌜ Reads (now (input .entry)) r ⌝ }
+    // The content of the file, or the first thing that is wrong with it and where. The requests are kept in
+    // `room`, and what it holds is let go: with memory for 7,281 of them every file is answered.
+    pub fn read(room: Vec<Request>, input: &[u8]) -> Result<FlightFile, ReadError>
+        ensures answer { λ r. ⌜ Reads (vec-cap room) (now (input .entry)) r ⌝ }
+        ensures enough { λ r. ⌜ Enough (vec-cap room) r ⌝ }
         ensures one { λ _. ⌜ OneAnswer ⌝ }
         ensures longest { λ _. ⌜ LongestRun ⌝ }
     {
@@ -51,7 +54,7 @@ impl FlightFile {
                 place: 0,
             }));
         }
-        let mut reader = Reader::new(heap, input);
+        let mut reader = Reader::new(room, input);
         while reader.place < input.len() {
             reader.step()?;
         }

@@ -107,7 +107,7 @@ pub fn refusal_line(heap: Global, refused: PlacedRefusal) -> Result<String, Allo
 pub fn report(heap: Global, input: &[u8]) -> io::Result<String>
     ensures { λ r. ⌜ made r (λ s. Reported (now (input .entry)) (string-bytes s)) ⌝ }
 {
-    let file = match FlightFile::read(heap, input) {
+    let file = match FlightFile::read(Vec::new(heap), input) {
         Ok(file) => file,
         Err(ReadError::Refused(refused)) => return Ok(refusal_line(heap, refused)?),
         Err(ReadError::NoMemory) => return Err(AllocError.into()),

@@ -16,7 +16,7 @@ pub returns-in-Break-push : need.returns-in-Break-push
 returns-in-Break-push c =
     let p = err-from-errBy (c .from-residual .result) (c .from-residual .ensures .1) in
     let old = c .args .self .now in
-    rw (p .1, p .2) (record { placed = (omega arith, c .pre .running); fit = (omega arith, omega arith) }, omega (arith, length-push (vec-items (old .requests)) (c .args .request)))
+    rw (p .1, p .2) (record { placed = (omega arith, c .pre .running); fit = (omega arith, omega arith) }, omega (arith, length-push (vec-items (old .requests)) (c .args .request), c .in-Break-push .ensures tt .cases, old .requests .ok .0))
 
 pub returns : need.returns
 returns c =
@@ -29,4 +29,5 @@ returns c =
       phase = (omega (arith, ap length items ∙ length-push (vec-items (old .requests)) q), omega (arith, last-push 0 (vec-items (old .requests)) q, ap (lastArrival 0) items));
       input = refl;
       place = refl;
+      room = c .push .ensures .capacity;
     }
