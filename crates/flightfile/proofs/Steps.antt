@@ -90,16 +90,17 @@ placed-err bs (Err d) n p e s =
     let same : refusalAt d n ≡ p = cc in
     (subst (λ (q : PlacedRefusal). Unreadable bs (q .refusal)) same s, sym (ap (λ (q : PlacedRefusal). q .place) same))
 
--- What a step says is wrong is the answer to the whole input, with less room too.
-pub step-answers : (room : ℕ) (old new : Reader) (e : ReadError) → room ≤ vec-cap (old .requests) → Sofar old → Stepped old (Err e) new → Reads room (old .input .now) (Err e)
-step-answers room old new (ReadError.Refused p) l h w =
+-- What a step says is wrong is the answer to the whole input.
+pub step-answers : (old new : Reader) (e : ReadError) → Sofar old → Stepped old (Err e) new → Reads (vec-cap (old .requests)) (old .input .now) (Err e)
+step-answers old new (ReadError.Refused p) h w =
     inr (h .short, (seen old, ahead old, subst (λ n. Front (old .input .now) (seen old) n (ahead old)) (sym (w .1)) (h .front), inl (w .0)))
-step-answers room old new ReadError.NoMemory l h w = let run = w .1 in (w .0, (run .0, run .1, run .2, run .3, omega (arith, run .4)))
+step-answers old new ReadError.NoMemory h w = w
 
-pub finish-answers : (room more : ℕ) (bs : List ℕ) (r : Result FlightFile ReadError) → room ≤ more → Reads more bs r → Reads room bs r
-finish-answers room more bs (Ok f) l a = a
-finish-answers room more bs (Err (ReadError.Refused p)) l a = a
-finish-answers room more bs (Err ReadError.NoMemory) l a = let run = a .1 in (a .0, (run .0, run .1, run .2, run .3, omega (arith, run .4)))
+-- What is answered with more room is right with less.
+pub less-room : (room more : ℕ) (bs : List ℕ) (r : Result FlightFile ReadError) → room ≤ more → Reads more bs r → Reads room bs r
+less-room room more bs (Ok f) l a = a
+less-room room more bs (Err (ReadError.Refused p)) l a = a
+less-room room more bs (Err ReadError.NoMemory) l a = let run = a .1 in (a .0, (run .0, run .1, run .2, run .3, omega (arith, run .4)))
 
 -- A file has no more than 7,281 requests.
 pub enough : (room : ℕ) (bs : List ℕ) (r : Result FlightFile ReadError) → Reads room bs r → Enough room r

@@ -7,7 +7,7 @@ use Rattle.std.specs.declared.result.Result.the-variants.{Err}
 use Rattle.std.specs.Of.Vec.{vec-cap}
 use Rattle.flightfile.specs.Reading.{Reads}
 use Rattle.flightfile.proofs.OneAnswer.{one-answer, longest-run}
-use Rattle.flightfile.proofs.Steps.{step-answers, finish-answers, enough}
+use Rattle.flightfile.proofs.Steps.{step-answers, less-room, enough}
 use Rattle.flightfile.proofs.file.FlightFile.read.Needs as need
 
 pub returns-then-input-gt-MOST-BYTES : need.returns-then-input-gt-MOST-BYTES
@@ -20,13 +20,15 @@ returns-in-Break-step c =
     let inv = c .loop-reader .inv in
     let room = vec-cap (c .args .room) in
     let e = c .in-Break-step .field-0 .0 in
-    let said = subst (λ l. Reads room l (Err e)) (inv .1) (step-answers room (c .loop-reader .reader) (c .step .last .self) e (omega (arith, c .new-reader .ensures .room, inv .2)) (inv .0) (c .in-Break-step .ensures tt)) in
-    record { answer = rw (p .1, p .2) said; enough = rw (p .1, p .2) (enough room (c .args .input .now) (Err e) said); one = one-answer; longest = longest-run }
+    let said = less-room room _ _ (Err e) (omega (arith, c .new-reader .ensures .room, inv .2)) (step-answers (c .loop-reader .reader) (c .step .last .self) e (inv .0) (c .in-Break-step .ensures tt)) in
+    let answer = subst (λ l. Reads room l (Err e)) (inv .1) said in
+    record { answer = rw (p .1, p .2) answer; enough = rw (p .1, p .2) (enough room (c .args .input .now) (Err e) answer); one = one-answer; longest = longest-run }
 
 pub returns : need.returns
 returns c =
     let inv = c .loop-reader .inv in
     let room = vec-cap (c .args .room) in
     let r = c .finish .result in
-    let said = finish-answers room (vec-cap (c .loop-reader .reader .requests)) (c .args .input .now) r (omega (arith, c .new-reader .ensures .room, inv .2)) (subst (λ l. Reads (vec-cap (c .loop-reader .reader .requests)) l r) (inv .1) (c .finish .ensures)) in
-    record { answer = said; enough = enough room (c .args .input .now) r said; one = one-answer; longest = longest-run }
+    let said = less-room room _ _ r (omega (arith, c .new-reader .ensures .room, inv .2)) (c .finish .ensures) in
+    let answer = subst (λ l. Reads room l r) (inv .1) said in
+    record { answer = answer; enough = enough room (c .args .input .now) r answer; one = one-answer; longest = longest-run }
