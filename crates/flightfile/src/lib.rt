@@ -1,4 +1,6 @@
 // Flight files: reading them, refusing what is wrong with its place, and writing them back.
+#![tactic(auto)]
+
 pub mod file;
 pub mod input;
 mod reader;

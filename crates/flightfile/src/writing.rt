@@ -96,9 +96,9 @@ impl Record {
 
 // Writes the records of all these into `out` from `at` on, and answers where they end.
 fn put_all<T: ToRecord>(out: &mut [u8], at: usize, items: &[T]) -> usize
-    requires { at + length (flat_map encode (map meaning items.now)) ≤ length out.old }
-    ensures wrote { out.new ≡ overwrite out.old at (flat_map encode (map meaning items.now)) }
-    ensures end { result ≡ at + length (flat_map encode (map meaning items.now)) }
+    requires { at + length (flat_map encode (map T.meaning items.now)) ≤ length out.old }
+    ensures wrote { out.new ≡ overwrite out.old at (flat_map encode (map T.meaning items.now)) }
+    ensures end { result ≡ at + length (flat_map encode (map T.meaning items.now)) }
 {
     let mut end = at;
     for item in items {

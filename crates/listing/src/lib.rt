@@ -35,7 +35,7 @@ fn push_line(text: &mut String, entry: Record) -> fmt::Result
 
 // Adds the lines of all these.
 fn push_lines<T: ToRecord>(text: &mut String, items: &[T]) -> fmt::Result
-    ensures { OnOk result (string_bytes text.new ≡ string_bytes text.old ++ flat_map record_line (map meaning items.now)) }
+    ensures { OnOk result (string_bytes text.new ≡ string_bytes text.old ++ flat_map record_line (map T.meaning items.now)) }
 {
     for item in items {
         push_line(text, item.to_record())?;

@@ -1,4 +1,6 @@
 // What everything else is built on: rows and drafts of them, and the product's refusals.
+#![tactic(auto)]
+
 pub mod draft;
 pub mod refusal;
 pub mod row;

@@ -14,18 +14,18 @@ put-end-requires g c =
     let f = g.T.ToRecord.meaning in
     let items = c.args.items.now in
     let i = c.loop-item.item-index in
-    let next = encode_next f items i c.item-item.result c.to-record.result c.loop-item-test.true c.item-item.is c.to-record.ensures in
-    omega (arith, c.loop-item.invariant.1, ap length next ∙ length-append _ (encode c.to-record.result), encode_front f (i + 1) items, c.requires, c.loop-item.auto.out)
+    let next = encode_next f items i c.item-item.result c.to_record.result c.loop-item-test.true c.item-item.is c.to_record.ensures in
+    omega (arith, c.loop-item.invariant.1, ap length next ∙ length-append _ (encode c.to_record.result), encode_front f (i + 1) items, c.requires, c.loop-item.auto.out)
 
 pub loop-item-preserved : goal.loop-item-preserved
 loop-item-preserved g c =
     let f = g.T.ToRecord.meaning in
     let items = c.args.items.now in
     let i = c.loop-item.item-index in
-    let next = encode_next f items i c.item-item.result c.to-record.result c.loop-item-test.true c.item-item.is c.to-record.ensures in
+    let next = encode_next f items i c.item-item.result c.to_record.result c.loop-item-test.true c.item-item.is c.to_record.ensures in
     let inv = c.loop-item.invariant in (
       overwrite_next c.args.out.now c.loop-item.out _ c.args.at c.loop-item.end _ _ _ (omega (arith, c.requires)) inv.0 inv.1 c.put-end.ensures.wrote next,
-      omega (arith, c.put-end.ensures.end, inv.1, ap length next ∙ length-append _ (encode c.to-record.result)),
+      omega (arith, c.put-end.ensures.end, inv.1, ap length next ∙ length-append _ (encode c.to_record.result)),
     )
 
 pub returns : goal.returns

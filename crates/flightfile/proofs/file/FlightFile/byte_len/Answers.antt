@@ -14,8 +14,8 @@ long c =
     let rows = sym (length-map c.rows.result.now times_of) ∙ ap length c.rows.ensures in
     omega (arith, bytes_long (rows_of f.rows) (vec_items f.requests) f.stop, rows, c.len.ensures, f.requests.ok.0)
 
-pub bytes-of-requires : goal.bytes-of-requires
-bytes-of-requires c = omega (arith, long c, c.args.self.now.short)
+pub bytes_of-requires : goal.bytes_of-requires
+bytes_of-requires c = omega (arith, long c, c.args.self.now.short)
 
 pub returns : goal.returns
-returns c = omega (arith, c.bytes-of.ensures, long (goal.at.returns c).After-len)
+returns c = omega (arith, c.bytes_of.ensures, long (goal.at.returns c).After-len)
