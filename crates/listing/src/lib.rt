@@ -1,4 +1,6 @@
 // The listing of a flight file: the text that the program `inspect` prints.
+#![tactic(auto)]
+
 ghost use Rattle.std.specs.Prelude.{◌≡◌, ◌++◌, map, IfOk, if◌then◌else◌, string_bytes, codes, Decides, OnOk};
 ghost use Rattle.flightfile.specs.Contents.{bytes};
 ghost use Rattle.flightfile.specs.Reading.{content_of};
@@ -14,7 +16,7 @@ use std::alloc::{AllocError, Global};
 use std::{fmt, io};
 
 // Adds the line of a record.
-fn push_line(text: &mut String, entry: Record) -> fmt::Result
+fn push_line(text: &mut String, entry: Record) -> Result<(), AllocError>
     ensures { OnOk result (string_bytes text.new ≡ string_bytes text.old ++ record_line entry) }
 {
     match entry {
@@ -34,7 +36,7 @@ fn push_line(text: &mut String, entry: Record) -> fmt::Result
 }
 
 // Adds the lines of all these.
-fn push_lines<T: ToRecord>(text: &mut String, items: &[T]) -> fmt::Result
+fn push_lines<T: ToRecord>(text: &mut String, items: &[T]) -> Result<(), AllocError>
     ensures { OnOk result (string_bytes text.new ≡ string_bytes text.old ++ flat_map record_line (map T.meaning items.now)) }
 {
     for item in items {
@@ -79,7 +81,7 @@ fn push_summary(
     rows: usize,
     requests: usize,
     found: &str,
-) -> fmt::Result
+) -> Result<(), AllocError>
     ensures { OnOk result (string_bytes text.new ≡ string_bytes text.old ++ summary_line size rows requests found.now) }
 {
     writeln!(text, "read,{size},{rows},{requests},{found}")
