@@ -1,4 +1,6 @@
 // Lists the flight file on standard input, or says why and where it is refused.
+#![tactic(auto)]
+
 use flightfile::input::fill;
 use flightfile::reading::MOST_BYTES;
 use std::io;
