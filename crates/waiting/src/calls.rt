@@ -40,7 +40,7 @@ pub struct Exchange {
 
 // Makes the call.
 fn make_call<W: WaitingOrder>(order: &mut W, call: Call) -> Answer
-    ensures { Answered (waiting order.old) call result (waiting order.new) }
+    ensures { Answered (W.waiting order.old) call result (W.waiting order.new) }
 {
     match call {
         Call::Put {
@@ -59,9 +59,9 @@ fn make_call<W: WaitingOrder>(order: &mut W, call: Call) -> Answer
 // Makes the calls in turn and fills in their answers.
 pub fn make_calls<W: WaitingOrder>(order: &mut W, transcript: &mut [Exchange])
     ensures calls { map call_of transcript.new ≡ map call_of transcript.old }
-    ensures answered { Transcript (waiting order.old) transcript.new (waiting order.new) }
-    ensures ticks { TicksKept (waiting order.old) transcript.new (waiting order.new) }
-    ensures requests { RequestsKept (waiting order.old) transcript.new (waiting order.new) }
+    ensures answered { Transcript (W.waiting order.old) transcript.new (W.waiting order.new) }
+    ensures ticks { TicksKept (W.waiting order.old) transcript.new (W.waiting order.new) }
+    ensures requests { RequestsKept (W.waiting order.old) transcript.new (W.waiting order.new) }
 {
     for exchange in transcript.iter_mut() {
         exchange.answer = make_call(order, exchange.call);

@@ -1,4 +1,6 @@
 // The line in which requests wait, and the orders in which it is served.
+#![tactic(auto)]
+
 pub mod calls;
 mod line;
 pub mod order;

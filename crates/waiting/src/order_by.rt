@@ -40,7 +40,7 @@ impl<R: PickRule> OrderBy<R> {
 impl<R: PickRule> WaitingOrder for OrderBy<R> {
     ghost waiting = { waits };
 
-    ghost picked = { λ s. picks s.rule (waits s) };
+    ghost picked = { λ s. R.picks s.rule (waits s) };
 
     ghost few = { λ s. few_wait s.line };
 
@@ -50,20 +50,20 @@ impl<R: PickRule> WaitingOrder for OrderBy<R> {
 
     fn put(&mut self, number: u16, arrival: u32, ticks: u16) -> Result<(), Refusal>
         ensures line { Put (waits self.old) (fresh number arrival ticks) result (waits self.new) }
-        ensures kept { OnErr result (picks self.new.rule (waits self.new) ≡ picks self.old.rule (waits self.old)) }
+        ensures kept { OnErr result (R.picks self.new.rule (waits self.new) ≡ R.picks self.old.rule (waits self.old)) }
         ensures rule { self.new.rule ≡ self.old.rule }
     {
         self.line.put(number, arrival, ticks)
     }
 
     fn pick(&self) -> Option<usize>
-        ensures { result ≡ picks self.now.rule (waits self.now) }
+        ensures { result ≡ R.picks self.now.rule (waits self.now) }
     {
         self.rule.pick(self.line.requests())
     }
 
     fn serve(&mut self, tick: u32) -> Option<FinishedRequest>
-        ensures line { Served (waits self.old) (picks self.old.rule (waits self.old)) tick result (waits self.new) }
+        ensures line { Served (waits self.old) (R.picks self.old.rule (waits self.old)) tick result (waits self.new) }
         ensures rule { self.new.rule ≡ self.old.rule }
     {
         let place = self.pick()?;

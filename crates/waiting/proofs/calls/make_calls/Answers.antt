@@ -10,11 +10,11 @@ loop-exchange-preserved g c =
     let waits = g.W.WaitingOrder.waiting in
     let xs = c.loop-exchange.transcript in
     let i = c.loop-exchange.exchange-index in
-    let answer = c.make-call-exchange.result in
+    let answer = c.make_call-exchange.result in
     let call = (get_or xs i blank).call in
-    let made : Answered (waits c.loop-exchange.order) call answer (waits c.make-call-exchange.new.order) = search rules in (
+    let made : Answered (waits c.loop-exchange.order) call answer (waits c.make_call-exchange.new.order) = search rules in (
       same_calls xs i answer ∙ c.loop-exchange.invariant.0,
-      transcript_more (waits c.args.order.now) (waits c.loop-exchange.order) (waits c.make-call-exchange.new.order) xs i answer (omega arith) c.loop-exchange.invariant.1 made,
+      transcript_more (waits c.args.order.now) (waits c.loop-exchange.order) (waits c.make_call-exchange.new.order) xs i answer (omega arith) c.loop-exchange.invariant.1 made,
     )
 
 pub returns : goal.returns

@@ -9,12 +9,6 @@ loop-slot-init c =
     let line = c.args.self.now in
     (refl, moved_none line.slots c.args.place (omega (arith, length-requests_of line)))
 
-pub invariant-of-self : goal.invariant-of-self
-invariant-of-self c =
-    let line = c.loop-slot.self in
-    let i = c.loop-slot.slot in
-    (length-set line.slots i _ ∙ line.full, (line.few, (unfinished_set line.slots line.len line.len i _ (omega (arith, line.full)) (λ k h other. h) line.unfinished (line.unfinished _ (omega arith)), tt)))
-
 pub loop-slot-preserved : goal.loop-slot-preserved
 loop-slot-preserved c =
     let old = c.args.self.now in
