@@ -1,5 +1,5 @@
 -- Reading: what `read` answers.
-use Rattle.std.specs.Prelude.{◌≡◌, ℕ, ◌<◌, ◌≤◌, List, length, Some, Ok, Err, vec_items, Result, ◌≢◌}
+use Rattle.std.specs.Prelude.{ℕ, ◌<◌, ◌≤◌, List, length, Some, Ok, Err, vec_items, Result, ◌≢◌}
 use Rattle.model.specs.Drafts.{rows_of}
 use Rattle.flightfile.specs.declared.file.FlightFile.{FlightFile}
 use Rattle.flightfile.specs.declared.reading.ReadError.{ReadError}

@@ -9,7 +9,7 @@ use Rattle.flightfile.specs.declared.file.FlightFile.{FlightFile}
 use Rattle.flightfile.specs.declared.record.Record.{Record}
 use Rattle.flightfile.specs.declared.record.Request.{Request}
 use Rattle.flightfile.specs.Answers.{says, Says}
-use Rattle.flightfile.specs.Contents.{Content, row_record, records}
+use Rattle.flightfile.specs.Contents.{Content, row_record}
 use Rattle.flightfile.specs.Reading.{content_of}
 use Rattle.flightfile.proofs.Joined.{flat_map-append, map-map}
 use Rattle.listing.specs.Lines.{record_line, record_lines, summary_line, Reported}

@@ -1,5 +1,5 @@
 -- What is kept over a list of calls: one law for whatever is weighed of a request, used for its ticks and for itself.
-use Rattle.std.proofs.Common.{◌≡◌, ℕ, suc, ◌+◌, ◌<◌, Bool, cond, List, [], ◌∷◌, ◌++◌, length, get_or, take, drop, set, Some, None, Ok, Err, sum_by, Option, Result, sym, refl, ap, ◌∙◌, subst, add-one, arith}
+use Rattle.std.proofs.Common.{◌≡◌, ℕ, suc, ◌+◌, ◌<◌, cond, List, [], ◌∷◌, length, get_or, take, drop, Some, None, Ok, Err, sum_by, Option, Result, sym, refl, ap, ◌∙◌, add-one, arith}
 use Rattle.std.specs.List.{remove, flat_map}
 use Rattle.std.proofs.lemmas.List.Sums.{sum_by-append, sum_by-cons, sum_by_push, sum_by-set, sum_by-take-drop, sum_by-drop_more}
 use Rattle.model.specs.declared.refusal.Refusal.{Refusal}
@@ -8,7 +8,7 @@ use Rattle.waiting.specs.declared.calls.Call.{Call}
 use Rattle.waiting.specs.declared.calls.Exchange.{Exchange}
 use Rattle.waiting.specs.declared.request.FinishedRequest.{FinishedRequest}
 use Rattle.waiting.specs.declared.request.WaitingRequest.{WaitingRequest}
-use Rattle.waiting.specs.Lines.{PickedFrom, Put, Served}
+use Rattle.waiting.specs.Lines.{PickedFrom, Served}
 use Rattle.waiting.specs.Requests.{unused, fresh, given, finished_by}
 use Rattle.waiting.specs.Transcripts.{Answered, Transcript, taken, ticks_given, handed_back, all_taken, TicksKept, finished_with, RequestsKept}
 

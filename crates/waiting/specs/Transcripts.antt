@@ -1,5 +1,5 @@
 -- Transcripts: calls to a waiting order with their answers, and what is kept over any of them.
-use Rattle.std.specs.Prelude.{◌≡◌, ℕ, ◌+◌, Bool, List, [], ◌∷◌, Some, None, Ok, Err, sum_by, count_by, Option, Result}
+use Rattle.std.specs.Prelude.{◌≡◌, ℕ, ◌+◌, Bool, List, [], ◌∷◌, Some, None, Ok, Err, sum_by, count_by}
 use Rattle.std.specs.List.{flat_map}
 use Rattle.std.specs.Option.{option_to_list}
 use Rattle.waiting.specs.declared.calls.Answer.{Answer}

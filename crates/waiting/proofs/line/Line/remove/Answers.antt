@@ -1,7 +1,6 @@
 use Rattle.std.proofs.Common.{◌≡◌, ◌-◌, take, refl, ap, ◌∙◌, arith}
-use Rattle.std.proofs.lemmas.List.{length-set}
 use Rattle.waiting.specs.Laws.{length-requests_of}
-use Rattle.waiting.proofs.Tables.{unfinished_set, moved_none, moved_more, moved_all}
+use Rattle.waiting.proofs.Tables.{moved_none, moved_more, moved_all}
 use Rattle.waiting.proofs.line.Line.remove.Goals as goal
 
 pub loop-slot-init : goal.loop-slot-init
