@@ -8,8 +8,8 @@ import re
 # words of specs/ and proofs/ that were in camel case
 WORDS = """
 allBack allGiven allTaken answeredAt bodyLength contentOf encodeAll finishedBy finishedWith handedBack lastArrival
-littleEndian recordLine recordLines refusalAt refusalLine requestsOf rowRecord startedBy stopOf summaryLine ticksGiven
-ticksLeft timesOf waitingWith
+littleEndian recordLine recordLines refusalAt requestsOf rowRecord startedBy stopOf summaryLine ticksGiven ticksLeft
+timesOf waitingWith
 """.split()
 
 # lemmas whose dash joined plain words
@@ -26,7 +26,8 @@ shortest-within stays-first step-answers ticks-kept transcript-more transcript-p
 unfit-not-fit unfit-same unlawful-same unreadable-same with-one wrong-same
 """.split()
 
-# the rest, each for its own reason: a type, a name inside a lemma's name, or a word that std has renamed
+# the rest, each for its own reason: a type, a name inside a lemma's name, a word that std has renamed, or one that
+# would fall together with a function
 OTHERS = {
     "Some-answer": "SomeAnswer",
     "AllByRecursion as All": "AllByRecursion",
@@ -37,6 +38,7 @@ OTHERS = {
     "joined-append": "flat_map-append",
     "joined-push": "flat_map-push",
     "take-removed": "take-remove",
+    "refusalLine": "refused_line",
 }
 
 

@@ -4,8 +4,8 @@ use model::refusal::Refusal;
 use model::row::Row;
 
 // The number of a refusal, 0 for none.
-fn number(res: Result<(), Refusal>) -> u8 {
-    match res {
+fn number(added: Result<(), Refusal>) -> u8 {
+    match added {
         Ok(()) => 0,
         Err(refusal) => refusal.number(),
     }

@@ -36,10 +36,10 @@ pub(crate) struct Reader<'a> {
 }
 
 // The result with the place of its refusal.
-fn placed<T>(res: Result<T, Refusal>, place: usize) -> Result<T, PlacedRefusal>
-    ensures { result ≡ placed_at res place }
+fn placed<T>(outcome: Result<T, Refusal>, place: usize) -> Result<T, PlacedRefusal>
+    ensures { result ≡ placed_at outcome place }
 {
-    match res {
+    match outcome {
         Ok(value) => Ok(value),
         Err(refusal) => Err(PlacedRefusal { refusal, place }),
     }

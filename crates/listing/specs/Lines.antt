@@ -34,14 +34,14 @@ abbrev pub summary_line : ℕ → ℕ → ℕ → List ℕ → List ℕ
 summary_line size rows requests found = line (codes "read") (decimal size ∷ decimal rows ∷ decimal requests ∷ found ∷ [])
 
 -- The one line of a refused file.
-abbrev pub refusal_line : Refusal → ℕ → List ℕ
-refusal_line e place = numbers (codes "refused") (number_of e ∷ place ∷ [])
+abbrev pub refused_line : Refusal → ℕ → List ℕ
+refused_line e place = numbers (codes "refused") (number_of e ∷ place ∷ [])
 
 -- What is printed of a file: the lines of its records and the last, in which it is always the same; or
 -- its refusal.
 abbrev pub printed : List ℕ → Answer → List ℕ
 printed file (says c) = record_lines c ++ summary_line (length file) (length c.rows) (length c.requests) (codes "same")
-printed file (refused e place) = refusal_line e place
+printed file (refused e place) = refused_line e place
 
 -- The text is what is printed of the answer to the file.
 abbrev pub Reported : List ℕ → List ℕ → Type 0

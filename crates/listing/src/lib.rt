@@ -4,7 +4,7 @@
 ghost use Rattle.std.specs.Prelude.{◌≡◌, ◌++◌, map, IfOk, if◌then◌else◌, string_bytes, codes, Decides, OnOk};
 ghost use Rattle.flightfile.specs.Contents.{bytes};
 ghost use Rattle.flightfile.specs.Reading.{content_of};
-ghost use Rattle.listing.specs.Lines.{record_line, record_lines, summary_line, refusal_line, Reported};
+ghost use Rattle.listing.specs.Lines.{record_line, record_lines, summary_line, refused_line, Reported};
 ghost use Rattle.std.specs.List.{flat_map};
 
 use flightfile::file::FlightFile;
@@ -89,7 +89,7 @@ fn push_summary(
 
 // The line of a refusal.
 pub fn refusal_line(heap: Global, refused: PlacedRefusal) -> Result<String, AllocError>
-    ensures { IfOk result (λ s. string_bytes s ≡ refusal_line refused.refusal refused.place) }
+    ensures { IfOk result (λ s. string_bytes s ≡ refused_line refused.refusal refused.place) }
 {
     let number = refused.refusal.number();
     let place = refused.place;
