@@ -1,7 +1,8 @@
 #!/usr/bin/env python3
 """Bring the repository's own definitions and lemmas to today's spelling: words in snake case, a dash only between
 two names of which each stands for something, facts and types in camel case. Run once at the top, after the kit's
-port.py. It touches .rt and .antt files below crates/ and the pages; names of functions in src/ stay."""
+port.py. It touches .rt and .antt files below crates/ and the pages, but not docs/PORT.md, which has the old names; names
+of functions in src/ stay."""
 import pathlib
 import re
 
@@ -68,7 +69,7 @@ def main():
     files = [p for p in pathlib.Path("crates").rglob("*") if p.suffix in (".rt", ".antt")]
     files += [p for p in [pathlib.Path("README.md"), *pathlib.Path("docs").glob("*.md")] if p.exists()]
     for path in files:
-        if "out" in path.parts:
+        if "out" in path.parts or path.name == "PORT.md":
             continue
         old = path.read_text()
         new = respelled(path, old)
