@@ -1,1 +1,1 @@
-pub mod DraftRows
+pub mod SlotsLemmas

@@ -1,13 +1,14 @@
 -- Drafts: the list of rows that a draft holds, and what adding one does to it.
-use Rattle.std.specs.Prelude.{◌≡◌, ◌<◌, ◌≤◌, ◌⊎◌, List, [], ◌∷◌, ◌++◌, map, length, take, Ok, Err, Result}
+use Rattle.std.specs.Prelude.{◌≡◌, ◌<◌, ◌≤◌, ◌⊎◌, List, [], ◌∷◌, ◌++◌, map, length, Ok, Err, Result}
 use Rattle.model.specs.declared.draft.Draft.{Draft}
 use Rattle.model.specs.declared.refusal.Refusal.{Refusal}
 use Rattle.model.specs.declared.refusal.Refusal.TheVariants.{RowOutsideLimits, SeventeenthRow}
 use Rattle.model.specs.Rows.{Times, times_of, InLimits}
+use Rattle.model.specs.Slots.{items_of}
 
 -- The rows of a draft, row 1 first.
 abbrev pub rows_of : Draft → List Times
-rows_of d = map times_of (take d.len d.slots)
+rows_of d = map times_of (items_of d.rows)
 
 -- Why these numbers cannot be added to these rows: sixteen are there, or else they break the limits.
 abbrev pub Unaddable : List Times → Times → Refusal → Type 0

@@ -1,3 +1,5 @@
 pub mod Drafts
 pub mod Refusals
+pub mod Requests
 pub mod Rows
+pub mod Slots

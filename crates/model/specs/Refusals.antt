@@ -1,5 +1,6 @@
--- The numbers of the refusals.
-use Rattle.std.specs.Prelude.{ℕ}
+-- The numbers of the refusals, and what is printed of a refusal in a file.
+use Rattle.std.specs.Prelude.{ℕ, List, ◌++◌, codes, decimal}
+use Rattle.model.specs.declared.refusal.PlacedRefusal.{PlacedRefusal}
 use Rattle.model.specs.declared.refusal.Refusal.{Refusal}
 use Rattle.model.specs.declared.refusal.Refusal.TheVariants.{RowOutsideLimits, SeventeenthRow, NoRows, HyperperiodTooLong, TooManyJobs, DeadlineMissed, EntriesUnfit, TicksOutsideRange, ToldOutOfTurn, RequestOutsideLimits, LineFull, FileTooLong, EndInsideRecord, UnknownKind, RecordOutOfPlace, NoStopRecord, OutputTooShort}
 
@@ -21,3 +22,11 @@ number_of UnknownKind = 14
 number_of RecordOutOfPlace = 15
 number_of NoStopRecord = 16
 number_of OutputTooShort = 17
+
+-- A refusal with its place.
+abbrev pub refusal_at : Refusal → ℕ → PlacedRefusal
+refusal_at e place = record { refusal = e; place = place }
+
+-- The word refused, the refusal's number and its place, with commas between them.
+abbrev pub refused_text : Refusal → ℕ → List ℕ
+refused_text e place = codes "refused," ++ (decimal (number_of e) ++ (codes "," ++ decimal place))

@@ -1,16 +1,14 @@
 // A draft: the rows of a table that has not been accepted yet.
-ghost use Rattle.std.specs.Prelude.{◌≡◌, ◌≤◌, length};
-
 use crate::row::Row;
+use crate::slots::Slots;
 
 mod collect;
 
-// At most sixteen rows in order, row 1, which has the highest priority, first. The memory is fixed,
-// since the board has no heap: the rows are the first `len` slots.
+// The most rows that a draft holds.
+const MOST_ROWS: usize = 16;
+
+// At most sixteen rows in order, row 1, which has the highest priority, first.
 #[derive(Clone, Copy)]
 pub struct Draft {
-    slots: [Row; 16],
-    len: usize,
-    ghost full: { length slots ≡ 16 },
-    ghost few: { len ≤ 16 },
+    rows: Slots<Row, MOST_ROWS>,
 }

@@ -1,6 +1,8 @@
 // The refusals: what the product answers where it does not do what was asked.
-ghost use Rattle.model.specs.Refusals.{number_of};
-ghost use Rattle.std.specs.Prelude.{◌≡◌};
+ghost use Rattle.model.specs.Refusals.{number_of, refusal_at, refused_text};
+ghost use Rattle.std.specs.Prelude.{◌≡◌, Some, decimal};
+
+use std::fmt;
 
 // Why a call was refused. A refused call changes nothing.
 #[derive(Clone, Copy, Debug, PartialEq, Eq)]
@@ -66,6 +68,25 @@ impl Refusal {
             Refusal::OutputTooShort => 17,
         }
     }
+
+    // The refusal of what stands at this place of a file.
+    pub fn at(self, place: usize) -> PlacedRefusal
+        ensures { result ≡ refusal_at self place }
+    {
+        PlacedRefusal {
+            refusal: self,
+            place,
+        }
+    }
+}
+
+// Its number.
+impl fmt::Display for Refusal {
+    ghost output = { λ e. Some (decimal (number_of e)) };
+
+    fn fmt<W: fmt::Write>(&self, f: &mut fmt::Formatter<W>) -> fmt::Result {
+        write!(f, "{}", self.number())
+    }
 }
 
 // A refusal of something in a flight file, with its place there: an offset in bytes.
@@ -73,4 +94,13 @@ impl Refusal {
 pub struct PlacedRefusal {
     pub refusal: Refusal,
     pub place: usize,
+}
+
+// As the product prints it: the word refused, the number and the place.
+impl fmt::Display for PlacedRefusal {
+    ghost output = { λ p. Some (refused_text p.refusal p.place) };
+
+    fn fmt<W: fmt::Write>(&self, f: &mut fmt::Formatter<W>) -> fmt::Result {
+        write!(f, "refused,{},{}", self.refusal, self.place)
+    }
 }

@@ -15,3 +15,12 @@ pub struct Row {
     ghost within: { deadline ≤ period },
     ghost limit: { period ≤ 60000 },
 }
+
+impl Row {
+    // The row 1, 2, 2, which stands where none has been put.
+    pub(crate) const UNFILLED: Row = Row {
+        cost: 1,
+        deadline: 2,
+        period: 2,
+    };
+}

@@ -6,23 +6,15 @@ ghost use Rattle.model.specs.Rows.{times, times_of};
 use super::Draft;
 use crate::refusal::Refusal;
 use crate::row::Row;
-
-// The most rows that a draft holds.
-const MOST_ROWS: usize = 16;
+use crate::slots::Slots;
 
 impl Draft {
     // A draft without rows.
     pub fn new() -> Draft
         ensures { rows_of result ≡ [] }
     {
-        let unused = Row {
-            cost: 1,
-            deadline: 2,
-            period: 2,
-        };
         Draft {
-            slots: [unused; 16],
-            len: 0,
+            rows: Slots::new(Row::UNFILLED),
         }
     }
 
@@ -30,19 +22,17 @@ impl Draft {
     pub fn add(&mut self, cost: u16, deadline: u16, period: u16) -> Result<(), Refusal>
         ensures { Added (rows_of self.old) (times cost deadline period) result (rows_of self.new) }
     {
-        if self.len >= MOST_ROWS {
+        if self.rows.is_full() {
             return Err(Refusal::SeventeenthRow);
         }
         let row = Row::new(cost, deadline, period)?;
-        self.slots[self.len] = row;
-        self.len += 1;
-        Ok(())
+        self.rows.push(row).map_err(|_| Refusal::SeventeenthRow)
     }
 
     // The rows in order.
     pub fn rows(&self) -> &[Row]
         ensures { map times_of result.now ≡ rows_of self.now }
     {
-        &self.slots[0..self.len]
+        self.rows.as_slice()
     }
 }
