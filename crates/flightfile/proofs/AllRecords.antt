@@ -10,7 +10,7 @@ use Rattle.model.specs.declared.row.Row.{Row}
 use Rattle.model.specs.Rows.{Times, times_of}
 use Rattle.flightfile.specs.declared.file.FlightFile.{FlightFile}
 use Rattle.flightfile.specs.declared.record.Record.{Record}
-use Rattle.flightfile.specs.declared.record.Request.{Request}
+use Rattle.model.specs.declared.request.Request.{Request}
 use Rattle.flightfile.specs.Answers.{Says}
 use Rattle.flightfile.specs.Contents.{Content, content, row_record, bytes}
 use Rattle.flightfile.specs.Reading.{content_of}

@@ -8,7 +8,7 @@ use Rattle.model.specs.declared.refusal.Refusal.{Refusal}
 use Rattle.model.specs.declared.refusal.Refusal.TheVariants.{FileTooLong, NoStopRecord}
 use Rattle.model.specs.Rows.{Times, InLimits}
 use Rattle.flightfile.specs.declared.record.Record.{Record}
-use Rattle.flightfile.specs.declared.record.Request.{Request}
+use Rattle.model.specs.declared.request.Request.{Request}
 use Rattle.flightfile.specs.Answers.{last_arrival, Unlawful, Wrong, Unstopped, Front, Answer, says, refused, Answers, OneAnswer, LongestRun}
 use Rattle.flightfile.specs.Contents.{Content, content, row_record, records, bytes, RequestLawful, NotFalling, StopInRange, Lawful}
 use Rattle.flightfile.specs.Records.{Bytes, encode, Encodable, Unreadable, Begins}

@@ -9,7 +9,7 @@ use Rattle.model.specs.declared.refusal.Refusal.{Refusal}
 use Rattle.model.specs.declared.refusal.Refusal.TheVariants.{RowOutsideLimits, SeventeenthRow, TicksOutsideRange, RequestOutsideLimits, RecordOutOfPlace}
 use Rattle.model.specs.Rows.{Times, times, InLimits}
 use Rattle.flightfile.specs.declared.record.Record.{Record}
-use Rattle.flightfile.specs.declared.record.Request.{Request}
+use Rattle.model.specs.declared.request.Request.{Request}
 use Rattle.flightfile.specs.Answers.{last_arrival, InPlace, Unfit, Unlawful}
 use Rattle.flightfile.specs.Contents.{Content, row_record, records, bytes, TicksInLimits, RequestLawful, NotFalling, StopInRange, Lawful}
 use Rattle.flightfile.specs.Records.{encode, Encodable}

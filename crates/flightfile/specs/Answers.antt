@@ -5,7 +5,7 @@ use Rattle.model.specs.declared.refusal.Refusal.TheVariants.{TicksOutsideRange, 
 use Rattle.model.specs.Drafts.{Unaddable}
 use Rattle.model.specs.Rows.{times}
 use Rattle.flightfile.specs.declared.record.Record.{Record}
-use Rattle.flightfile.specs.declared.record.Request.{Request}
+use Rattle.model.specs.declared.request.Request.{Request}
 use Rattle.flightfile.specs.Contents.{Content, bytes, TicksInLimits, StopInRange, Lawful}
 use Rattle.flightfile.specs.Records.{Bytes, Unreadable, Begins}
 

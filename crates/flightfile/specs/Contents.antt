@@ -2,9 +2,10 @@
 use Rattle.std.specs.Prelude.{ℕ, ◌^◌, ◌<◌, ◌≤◌, List, [], ◌∷◌, ◌++◌, map, length, Option}
 use Rattle.std.specs.List.{flat_map, AllByRecursion}
 use Rattle.std.specs.Option.{option_to_list}
+use Rattle.model.specs.Requests.{Askable}
 use Rattle.model.specs.Rows.{Times, InLimits}
 use Rattle.flightfile.specs.declared.record.Record.{Record}
-use Rattle.flightfile.specs.declared.record.Request.{Request}
+use Rattle.model.specs.declared.request.Request.{Request}
 use Rattle.flightfile.specs.Records.{encode}
 
 -- What a file says, or a front of it: its rows, its requests and, if the stop record is there, the stop.
@@ -31,7 +32,7 @@ bytes c = flat_map encode (records c)
 
 -- 1 to 60,000 ticks.
 abbrev pub TicksInLimits : Request → Type 0
-TicksInLimits q = (1 ≤ q.ticks) × (q.ticks ≤ 60000)
+TicksInLimits q = Askable q.ticks
 
 -- A request of a file: its ticks within the limits, its arrival of 32 bits and its number of 16.
 pub record RequestLawful (q : Request) : Type 0 where

@@ -9,7 +9,7 @@ use Rattle.flightfile.specs.declared.reading.ReadError.{ReadError}
 use Rattle.flightfile.specs.declared.reader.Phase.{Phase}
 use Rattle.flightfile.specs.declared.reader.Reader.{Reader}
 use Rattle.flightfile.specs.declared.record.Record.{Record}
-use Rattle.flightfile.specs.declared.record.Request.{Request}
+use Rattle.model.specs.declared.request.Request.{Request}
 use Rattle.flightfile.specs.Answers.{last_arrival, InPlace, Unlawful, Wrong, Front}
 use Rattle.flightfile.specs.Contents.{Content, content, TicksInLimits, StopInRange}
 use Rattle.flightfile.specs.Reading.{WantsMemory}

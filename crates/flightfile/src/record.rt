@@ -4,20 +4,14 @@ ghost use Rattle.flightfile.specs.Records.{Split};
 
 use model::refusal::Refusal;
 
+pub use model::request::Request;
+
 // The kind bytes: the letters R, Q and S.
 pub(crate) const ROW: u8 = 0x52;
 
 pub(crate) const REQUEST: u8 = 0x51;
 
 pub(crate) const STOP: u8 = 0x53;
-
-// A single request as the file has it: so many ticks of work, handed in at the tick `arrival`.
-#[derive(Clone, Copy, Debug, PartialEq, Eq)]
-pub struct Request {
-    pub arrival: u32,
-    pub number: u16,
-    pub ticks: u16,
-}
 
 // What one record says. Nothing is known of the numbers yet.
 #[derive(Clone, Copy)]

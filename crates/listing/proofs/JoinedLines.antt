@@ -7,7 +7,7 @@ use Rattle.model.specs.Drafts.{rows_of}
 use Rattle.model.specs.Rows.{times_of}
 use Rattle.flightfile.specs.declared.file.FlightFile.{FlightFile}
 use Rattle.flightfile.specs.declared.record.Record.{Record}
-use Rattle.flightfile.specs.declared.record.Request.{Request}
+use Rattle.model.specs.declared.request.Request.{Request}
 use Rattle.flightfile.specs.Answers.{says, Says}
 use Rattle.flightfile.specs.Contents.{Content, row_record}
 use Rattle.flightfile.specs.Reading.{content_of}
