@@ -1,6 +1,5 @@
 -- The bytes of many records in turn: one more, how many at most, and how many in all.
 use Rattle.std.proofs.Common.{◌≡◌, ℕ, ◌+◌, ◌*◌, ◌<◌, ◌≤◌, List, [], ◌∷◌, ◌++◌, map, length, get_or, take, drop, Some, Ok, Err, vec_items, Result, sym, refl, ap, ◌∙◌, arith, length-append, take-append-drop}
-use mathlib.Core.Logic.{∥∥₁_map}
 use Rattle.std.proofs.lemmas.List.{map-append, map_more, take_at}
 use Rattle.std.specs.List.{flat_map}
 use Rattle.std.specs.Option.{option_to_list}
@@ -80,4 +79,4 @@ written_back c old (Ok n) new w file s = (w.1 ∙ ap length (sym s.3), ap (take 
 written_back c old (Err e) new w file s = tt
 
 pub file_says : (f : FlightFile) → ∥ Says (bytes (content_of f)) (content_of f) ∥₁
-file_says f = ∥∥₁_map f.lawful (λ h. (f.short, h, (f.stop, refl), refl))
+file_says f = ∣ (f.short, f.lawful, (f.stop, refl), refl) ∣₁

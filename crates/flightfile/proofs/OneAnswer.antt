@@ -212,6 +212,7 @@ module _ (bs : List ℕ) (short : length bs ≤ 65536) where
   go_on (suc fuel) run (k ∷ rest) l t h s = step fuel (go_on fuel) run (k ∷ rest) l t h s (begins_or_not (k ∷ rest) (omega arith) t)
 
 pub one_answer : OneAnswer
+unfolding OneAnswer
 one_answer bs t = go (cases_lt 65536 (length bs))
   where
     with_one : (a : Answer) × Answers bs a → (a : Answer) × Answers bs a × ((b : Answer) → Answers bs b → b ≡ a)
@@ -222,6 +223,7 @@ one_answer bs t = go (cases_lt 65536 (length bs))
     go (inr short) = with_one (go_on bs short (length bs) (content [] [] None) bs (omega arith) t (record { few = omega arith; rows = tt; requests = tt; order = tt; stop = tt }) refl)
 
 pub longest_run : LongestRun
+unfolding LongestRun
 longest_run bs e place short (inl w) run rest h t = absurd (omega (arith, w.0))
 longest_run bs e place short (inr w) run rest h t =
     let front = w.1.2 in

@@ -67,9 +67,9 @@ Answers bs (says c) = Says bs c
 Answers bs (refused e place) = Refuses bs e place
 
 -- Every byte string has an answer, and no other.
-abbrev pub OneAnswer : Type 0
+unfoldable pub OneAnswer : Type 0
 OneAnswer = (bs : List ℕ) → Bytes bs → (a : Answer) × Answers bs a × ((b : Answer) → Answers bs b → b ≡ a)
 
 -- The place of a refusal is where the longest lawful run of records ends, unless the file is too long.
-abbrev pub LongestRun : Type 0
+unfoldable pub LongestRun : Type 0
 LongestRun = (bs : List ℕ) (e : Refusal) (place : ℕ) → length bs ≤ 65536 → Refuses bs e place → (run : Content) (rest : List ℕ) → Lawful run → bs ≡ bytes run ++ rest → length (bytes run) ≤ place

@@ -1,6 +1,7 @@
 -- Contents: what a flight file says, which contents are lawful, and their bytes.
 use Rattle.std.specs.Prelude.{ℕ, ◌^◌, ◌<◌, ◌≤◌, List, [], ◌∷◌, ◌++◌, map, length, Option}
-use Rattle.std.specs.List.{flat_map, AllByRecursion}
+use Rattle.std.specs.Coded.{×_prop, Unit-prop, le_prop}
+use Rattle.std.specs.List.{flat_map, AllByRecursion, AllByRecursion-prop}
 use Rattle.std.specs.Option.{option_to_list}
 use Rattle.model.specs.Requests.{Askable}
 use Rattle.model.specs.Rows.{Times, InLimits}
@@ -56,3 +57,23 @@ pub record Lawful (c : Content) : Type 0 where
   pub requests : AllByRecursion RequestLawful c.requests
   pub order : NotFalling 0 c.requests
   pub stop : AllByRecursion StopInRange (option_to_list c.stop)
+
+-- A content is lawful in one way: what a ghost field asks of a fact.
+InLimits-prop : (t : Times) → IsProp (InLimits t)
+InLimits-prop t x y = λ i. record { some = le_prop x.some y.some i; fits = le_prop x.fits y.fits i; within = le_prop x.within y.within i; limit = le_prop x.limit y.limit i }
+
+RequestLawful-prop : (q : Request) → IsProp (RequestLawful q)
+RequestLawful-prop q x y = λ i. record { ticks = ×_prop le_prop le_prop x.ticks y.ticks i; arrival = le_prop x.arrival y.arrival i; number = le_prop x.number y.number i }
+
+NotFalling-prop : (a : ℕ) (qs : List Request) → IsProp (NotFalling a qs)
+NotFalling-prop a [] = Unit-prop
+NotFalling-prop a (q ∷ qs) = ×_prop le_prop (NotFalling-prop q.arrival qs)
+
+pub Lawful-prop : (c : Content) → IsProp (Lawful c)
+Lawful-prop c x y = λ i. record {
+  few = le_prop x.few y.few i;
+  rows = AllByRecursion-prop InLimits InLimits-prop c.rows x.rows y.rows i;
+  requests = AllByRecursion-prop RequestLawful RequestLawful-prop c.requests x.requests y.requests i;
+  order = NotFalling-prop 0 c.requests x.order y.order i;
+  stop = AllByRecursion-prop StopInRange (λ _. ×_prop le_prop le_prop) (option_to_list c.stop) x.stop y.stop i;
+}

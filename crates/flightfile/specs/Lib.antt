@@ -1,5 +1,6 @@
 pub mod Answers
 pub mod Contents
+pub mod Phases
 pub mod Progress
 pub mod Reading
 pub mod Records

@@ -1,6 +1,6 @@
 // The content of a flight file.
 ghost use Rattle.std.specs.Prelude.{◌≤◌, length, Some};
-ghost use Rattle.flightfile.specs.Contents.{content, bytes, Lawful};
+ghost use Rattle.flightfile.specs.Contents.{content, bytes, Lawful, Lawful-prop};
 ghost use Rattle.model.specs.Drafts.{rows_of};
 
 use crate::record::Request;
@@ -13,6 +13,6 @@ pub struct FlightFile {
     pub rows: Draft,
     pub requests: Vec<Request>,
     pub stop: u32,
-    ghost lawful: { ∥ Lawful (content (rows_of rows) requests.items (Some stop)) ∥₁ },
+    ghost lawful: { Lawful (content (rows_of rows) requests.items (Some stop)) } by { Lawful-prop (content (rows_of rows) requests.items (Some stop)) },
     ghost short: { length (bytes (content (rows_of rows) requests.items (Some stop))) ≤ 65536 },
 }

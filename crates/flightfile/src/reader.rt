@@ -1,18 +1,15 @@
-// A reader over the bytes of a flight file: one record at a time, each tested against the part of the
-// file that has been reached.
-ghost use Rattle.std.specs.Prelude.{◌≡◌, ◌<◌, ◌≤◌, length, None, vec_capacity};
-ghost use Rattle.flightfile.specs.Reading.{Reads};
-ghost use Rattle.flightfile.specs.Answers.{last_arrival};
-ghost use Rattle.flightfile.specs.Progress.{stop_of, Sofar, Stepped, Admitted, refusal_at, placed_at};
+// A reader of the records of a flight file: each is tested against the part of the file that has been
+// reached, and taken in.
+ghost use Rattle.std.specs.Prelude.{◌≡◌, ◌≤◌, [], length, None, vec_capacity};
+ghost use Rattle.flightfile.specs.Contents.{content, bytes, Lawful, Lawful-prop};
+ghost use Rattle.flightfile.specs.Phases.{stop_of, Reached, Reached-prop};
+ghost use Rattle.model.specs.Drafts.{rows_of};
 
 use crate::file::FlightFile;
 use crate::reading::ReadError;
 use crate::record::{Record, Request};
 use model::draft::Draft;
-use model::refusal::{PlacedRefusal, Refusal};
-
-// The most ticks of a request.
-const MOST_TICKS: u16 = 60_000;
+use model::refusal::Refusal;
 
 // The last tick count of a flight.
 const LAST_TICK: u32 = 2_000_000_000;
@@ -25,73 +22,37 @@ pub(crate) enum Phase {
     Stopped { ticks: u32 },
 }
 
-// The records before `place` have been read.
+// What the records so far say. It is always lawful.
 #[derive(Drop)]
-pub(crate) struct Reader<'a> {
-    input: &'a [u8],
-    pub(crate) place: usize,
+pub(crate) struct Reader {
     phase: Phase,
     rows: Draft,
     requests: Vec<Request>,
+    ghost lawful: { Lawful (content (rows_of rows) requests.items (stop_of phase)) } by { Lawful-prop (content (rows_of rows) requests.items (stop_of phase)) },
+    ghost reached: { Reached phase requests.items } by { Reached-prop phase requests.items },
 }
 
-// The result with the place of its refusal.
-fn placed<T>(outcome: Result<T, Refusal>, place: usize) -> Result<T, PlacedRefusal>
-    ensures { result ≡ placed_at outcome place }
-{
-    match outcome {
-        Ok(value) => Ok(value),
-        Err(refusal) => Err(PlacedRefusal { refusal, place }),
-    }
-}
+impl Reader {
+    ghost use Rattle.flightfile.specs.Answers.{last_arrival};
+    ghost use Rattle.flightfile.specs.Progress.{seen, Admitted, Finished};
 
-impl<'a> Reader<'a> {
     // Before the first record. The requests will be kept in `room`, whatever it holds now.
-    pub(crate) fn new(mut room: Vec<Request>, input: &'a [u8]) -> Reader<'a>
-        requires { length input.now ≤ 65536 }
-        ensures sofar { Sofar result }
-        ensures over { result.input.now ≡ input.now }
+    pub(crate) fn new(mut room: Vec<Request>) -> Reader
+        ensures nothing { seen result ≡ content [] [] None }
         ensures room { vec_capacity room ≤ vec_capacity result.requests }
     {
         room.clear();
         Reader {
-            input,
-            place: 0,
             phase: Phase::Rows,
             rows: Draft::new(),
             requests: room,
         }
     }
 
-    // Reads the record at `place`.
-    pub(crate) fn step(&mut self) -> Result<(), ReadError>
-        requires sofar { Sofar self.old }
-        requires more { self.old.place < length self.old.input.now }
-        ensures { Stepped self.old result self.new }
+    // Takes in the record at `place`, if it may stand here and its numbers are within their limits.
+    pub(crate) fn admit(&mut self, found: Record, place: usize) -> Result<(), ReadError>
+        ensures { Admitted self.old found place result self.new }
     {
-        let input = self.input;
-        let (record, rest) = placed(Record::split(&input[self.place..]), self.place)?;
-        self.admit(record)?;
-        self.place = input.len() - rest.len();
-        Ok(())
-    }
-
-    // A refusal of the record at `place`.
-    fn refuse(&self, refusal: Refusal) -> ReadError
-        ensures { result ≡ ReadError.Refused (refusal_at refusal self.now.place) }
-    {
-        ReadError::Refused(PlacedRefusal {
-            refusal,
-            place: self.place,
-        })
-    }
-
-    // Takes in what the record says, if it may stand here and its numbers are within their limits.
-    fn admit(&mut self, found: Record) -> Result<(), ReadError>
-        requires sofar { Sofar self.old }
-        ensures { Admitted self.old found result self.new }
-    {
-        let place = self.place;
         match (self.phase, found) {
             (
                 Phase::Rows,
@@ -101,31 +62,30 @@ impl<'a> Reader<'a> {
                     period,
                 },
             ) => {
-                placed(self.rows.add(cost, deadline, period), place)?;
-                Ok(())
+                let added = self.rows.add(cost, deadline, period);
+                Ok(added.map_err(|refusal| refusal.at(place))?)
             }
-            (Phase::Rows, Record::Request(request)) => self.admit_request(0, request),
+            (Phase::Rows, Record::Request(request)) => self.admit_request(0, request, place),
             (Phase::Requests { last }, Record::Request(request)) => self.admit_request(
-                last, request,
+                last, request, place,
             ),
-            (Phase::Rows, Record::Stop(ticks)) => self.admit_stop(ticks),
-            (Phase::Requests { .. }, Record::Stop(ticks)) => self.admit_stop(ticks),
-            _ => Err(self.refuse(Refusal::RecordOutOfPlace)),
+            // twice, since the check has no rule for one arm over two phases that reads `ticks`
+            (Phase::Rows, Record::Stop(ticks)) => self.admit_stop(ticks, place),
+            (Phase::Requests { .. }, Record::Stop(ticks)) => self.admit_stop(ticks, place),
+            _ => Err(Refusal::RecordOutOfPlace.at(place).into()),
         }
     }
 
     // Keeps a request, which may arrive no earlier than `last`.
-    fn admit_request(&mut self, last: u32, request: Request) -> Result<(), ReadError>
+    fn admit_request(&mut self, last: u32, request: Request, place: usize) -> Result<(), ReadError>
         requires running { stop_of self.old.phase ≡ None }
         requires last { last ≡ last_arrival 0 self.old.requests.items }
-        ensures { Admitted self.old (Record.Request request) result self.new }
+        ensures { Admitted self.old (Record.Request request) place result self.new }
     {
         if request.arrival < last {
-            return Err(self.refuse(Refusal::RecordOutOfPlace));
+            return Err(Refusal::RecordOutOfPlace.at(place).into());
         }
-        if request.ticks < 1 || request.ticks > MOST_TICKS {
-            return Err(self.refuse(Refusal::RequestOutsideLimits));
-        }
+        request.check().map_err(|refusal| refusal.at(place))?;
         self.requests.push(request)?;
         self.phase = Phase::Requests {
             last: request.arrival,
@@ -134,27 +94,23 @@ impl<'a> Reader<'a> {
     }
 
     // Notes the stop.
-    fn admit_stop(&mut self, ticks: u32) -> Result<(), ReadError>
-        requires sofar { Sofar self.old }
-        requires running { stop_of self.old.phase ≡ None }
-        ensures { Admitted self.old (Record.Stop ticks) result self.new }
+    fn admit_stop(&mut self, ticks: u32, place: usize) -> Result<(), ReadError>
+        requires { stop_of self.old.phase ≡ None }
+        ensures { Admitted self.old (Record.Stop ticks) place result self.new }
     {
-        if ticks < 1 || ticks > LAST_TICK {
-            return Err(self.refuse(Refusal::TicksOutsideRange));
+        if !(1..=LAST_TICK).contains(&ticks) {
+            return Err(Refusal::TicksOutsideRange.at(place).into());
         }
         self.phase = Phase::Stopped { ticks };
         Ok(())
     }
 
     // The content once all is read, if the stop has come.
-    pub(crate) fn finish(self) -> Result<FlightFile, ReadError>
-        requires sofar { Sofar self }
-        requires whole { length self.input.now ≤ self.place }
-        ensures { Reads (vec_capacity self.entry.requests) self.entry.input.now result }
+    pub(crate) fn finish(self) -> Result<FlightFile, Refusal>
+        requires { length (bytes (seen self)) ≤ 65536 }
+        ensures { Finished (seen self) result }
     {
         let Reader {
-            input: _,
-            place,
             phase,
             rows,
             requests,
@@ -165,10 +121,7 @@ impl<'a> Reader<'a> {
                 requests,
                 stop: ticks,
             }),
-            Phase::Rows | Phase::Requests { .. } => Err(ReadError::Refused(PlacedRefusal {
-                refusal: Refusal::NoStopRecord,
-                place,
-            })),
+            Phase::Rows | Phase::Requests { .. } => Err(Refusal::NoStopRecord),
         }
     }
 }

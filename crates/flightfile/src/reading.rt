@@ -6,7 +6,7 @@ ghost use Rattle.std.specs.Prelude.{◌≡◌, vec_capacity};
 
 use crate::file::FlightFile;
 use crate::reader::Reader;
-use crate::record::Request;
+use crate::record::{Record, Request};
 use model::refusal::{PlacedRefusal, Refusal};
 use std::alloc::AllocFailed;
 
@@ -39,6 +39,7 @@ impl<T: Drop> From<AllocFailed<T>> for ReadError {
 impl FlightFile {
     // The content of the file, or the first thing that is wrong with it and where. The requests are kept in
     // `room`, and what it holds is let go: with memory for 7,281 of them every file is answered.
+    #[tactic(auto, using(crate::proofs::OneAnswer::one_answer, crate::proofs::OneAnswer::longest_run))]
     pub fn read(room: Vec<Request>, input: &[u8]) -> Result<FlightFile, ReadError>
         ensures answer { Reads (vec_capacity room) input.now result }
         ensures enough { Enough (vec_capacity room) result }
@@ -46,15 +47,16 @@ impl FlightFile {
         ensures longest { LongestRun }
     {
         if input.len() > MOST_BYTES {
-            return Err(ReadError::Refused(PlacedRefusal {
-                refusal: Refusal::FileTooLong,
-                place: 0,
-            }));
+            return Err(Refusal::FileTooLong.at(0).into());
         }
-        let mut reader = Reader::new(room, input);
-        while reader.place < input.len() {
-            reader.step()?;
+        let mut reader = Reader::new(room);
+        let mut rest = input;
+        while !rest.is_empty() {
+            let place = input.len() - rest.len();
+            let (record, after) = Record::split(rest).map_err(|refusal| refusal.at(place))?;
+            reader.admit(record, place)?;
+            rest = after;
         }
-        reader.finish()
+        Ok(reader.finish().map_err(|refusal| refusal.at(input.len()))?)
     }
 }

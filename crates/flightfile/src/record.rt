@@ -3,7 +3,6 @@ ghost use Rattle.std.specs.Prelude.{◌<◌, length};
 ghost use Rattle.flightfile.specs.Records.{Split};
 
 use model::refusal::Refusal;
-
 pub use model::request::Request;
 
 // The kind bytes: the letters R, Q and S.
