@@ -70,20 +70,19 @@ module _ (bs : List ℕ) (byte : Bytes bs) where
         ∙ ap (λ l. 0x53 ∷ l ++ drop 5 bs) (sym (four 1 n en));
   }
 
-up : (m n : ℕ) → m % 256 ≡ n % 256 → m / 256 ≡ n / 256 → m ≡ n
-up m n e f = omega arith
-
-below : (m k : ℕ) → m < k * 256 → m / 256 < k
-below m k h = omega arith
-
-top : (m n : ℕ) → m < 256 → n < 256 → m % 256 ≡ n % 256 → m ≡ n
-top m n h k e = omega arith
-
 two_same : (m n : ℕ) → m < 2 ^ 16 → n < 2 ^ 16 → little_endian 2 m ≡ little_endian 2 n → m ≡ n
-two_same m n h k e = up m n (cc) (top (m / 256) (n / 256) (below m 256 h) (below n 256 k) (cc))
+two_same m n h k e =
+    let first : m % 256 ≡ n % 256 = cc in
+    let second : m / 256 % 256 ≡ n / 256 % 256 = cc in
+    omega arith
 
 four_same : (m n : ℕ) → m < 2 ^ 32 → n < 2 ^ 32 → little_endian 4 m ≡ little_endian 4 n → m ≡ n
-four_same m n h k e = up m n (cc) (up (m / 256) (n / 256) (cc) (two_same (m / 256 / 256) (n / 256 / 256) (below (m / 256) 65536 (below m 16777216 h)) (below (n / 256) 65536 (below n 16777216 k)) (cc)))
+four_same m n h k e =
+    let first : m % 256 ≡ n % 256 = cc in
+    let second : m / 256 % 256 ≡ n / 256 % 256 = cc in
+    let third : m / 256 / 256 % 256 ≡ n / 256 / 256 % 256 = cc in
+    let fourth : m / 256 / 256 / 256 % 256 ≡ n / 256 / 256 / 256 % 256 = cc in
+    omega arith
 
 -- Bytes begin with one record at most.
 pub begins_same : (bs : List ℕ) (x y : Record) (r s : List ℕ) → Begins bs x r → Begins bs y s → (x ≡ y) × (r ≡ s)

@@ -1,6 +1,7 @@
 -- One record more: a record that is allowed after a lawful run makes a longer one, and each record is allowed or refused.
 use Rattle.std.proofs.Common.{◌≡◌, ℕ, ◌<◌, ◌≤◌, ◌⊎◌, List, [], ◌∷◌, ◌++◌, map, length, Some, None, Option, sym, refl, ap, ◌∙◌, inl, inr, append_assoc, append-nil, arith}
 use Rattle.std.proofs.ByRecursion.{All-push}
+use Rattle.std.proofs.Math.Decide.{dec_le, map_dec}
 use Rattle.std.proofs.lemmas.List.{length_push, map_push}
 use Rattle.std.proofs.lemmas.Bool.{cases_lt}
 use Rattle.std.specs.List.{flat_map}
@@ -68,70 +69,55 @@ lawful_extend c (Record.Request q) h e a = record {
 }
 lawful_extend c (Record.Stop n) h e a = record { few = h.few; rows = h.rows; requests = h.requests; order = h.order; stop = (a.fit, tt) }
 
-abbrev Decided : Type 0 → Type 0
-Decided P = P ⊎ (P → ⊥)
+both : {P Q : Type 0} → Dec P → Dec Q → Dec (P × Q)
+both (yes p) (yes q) = yes (p, q)
+both (yes p) (no n) = no (λ h. n h.1)
+both (no n) d = no (λ h. n h.0)
 
-both : {P Q : Type 0} → Decided P → Decided Q → Decided (P × Q)
-both (inl p) (inl q) = inl (p, q)
-both (inl p) (inr n) = inr (λ h. n h.1)
-both (inr n) d = inr (λ h. n h.0)
+empty? : (qs : List Request) → Dec (qs ≡ [])
+empty? [] = yes refl
+empty? (q ∷ qs) = no (λ e. let z : ◌≡◌ {A = ℕ} 0 1 = cc in omega arith)
 
-le? : (a b : ℕ) → Decided (a ≤ b)
-le? a b = go (cases_lt b a)
-  where
-    go : (b < a) ⊎ (a ≤ b) → Decided (a ≤ b)
-    go (inl h) = inr (λ k. omega arith)
-    go (inr h) = inl h
+none? : (o : Option ℕ) → Dec (o ≡ None)
+none? None = yes refl
+none? (Some n) = no (λ e. let z : ◌≡◌ {A = ℕ} 0 1 = cc in omega arith)
 
-empty? : (qs : List Request) → Decided (qs ≡ [])
-empty? [] = inl refl
-empty? (q ∷ qs) = inr (λ e. let z : ◌≡◌ {A = ℕ} 0 1 = cc in omega arith)
+limits? : (t : Times) → Dec (InLimits t)
+limits? t =
+    map_dec (λ p. record { some = p.0.0; fits = p.0.1; within = p.1.0; limit = p.1.1 }) (λ h. ((h.some, h.fits), (h.within, h.limit)))
+    (both (both (dec_le 1 t.cost) (dec_le t.cost t.deadline)) (both (dec_le t.deadline t.period) (dec_le t.period 60000)))
 
-none? : (o : Option ℕ) → Decided (o ≡ None)
-none? None = inl refl
-none? (Some n) = inr (λ e. let z : ◌≡◌ {A = ℕ} 0 1 = cc in omega arith)
-
-limits? : (t : Times) → Decided (InLimits t)
-limits? t = go (both (both (le? 1 t.cost) (le? t.cost t.deadline)) (both (le? t.deadline t.period) (le? t.period 60000)))
-  where
-    Parts : Type 0
-    Parts = ((1 ≤ t.cost) × (t.cost ≤ t.deadline)) × ((t.deadline ≤ t.period) × (t.period ≤ 60000))
-
-    go : Decided Parts → Decided (InLimits t)
-    go (inl p) = inl (record { some = p.0.0; fits = p.0.1; within = p.1.0; limit = p.1.1 })
-    go (inr n) = inr (λ h. n ((h.some, h.fits), (h.within, h.limit)))
-
-placed? : (c : Content) (x : Record) → Decided (InPlace c x)
+placed? : (c : Content) (x : Record) → Dec (InPlace c x)
 placed? c (Record.Row _ _ _) = both (empty? c.requests) (none? c.stop)
-placed? c (Record.Request q) = both (le? (last_arrival 0 c.requests) q.arrival) (none? c.stop)
+placed? c (Record.Request q) = both (dec_le (last_arrival 0 c.requests) q.arrival) (none? c.stop)
 placed? c (Record.Stop _) = none? c.stop
 
 fit? : (c : Content) (x : Record) → Fit c x ⊎ ((e : Refusal) × Unfit c x e)
 fit? c (Record.Row cost deadline period) = go (cases_lt (length c.rows) 16) (limits? (times cost deadline period))
   where
-    go : (length c.rows < 16) ⊎ (16 ≤ length c.rows) → Decided (InLimits (times cost deadline period)) → Fit c (Record.Row cost deadline period) ⊎ ((e : Refusal) × Unfit c (Record.Row cost deadline period) e)
-    go (inl few) (inl h) = inl (few, h)
-    go (inl few) (inr n) = inr (RowOutsideLimits, inr (few, n, refl))
+    go : (length c.rows < 16) ⊎ (16 ≤ length c.rows) → Dec (InLimits (times cost deadline period)) → Fit c (Record.Row cost deadline period) ⊎ ((e : Refusal) × Unfit c (Record.Row cost deadline period) e)
+    go (inl few) (yes h) = inl (few, h)
+    go (inl few) (no n) = inr (RowOutsideLimits, inr (few, n, refl))
     go (inr full) d = inr (SeventeenthRow, inl (full, refl))
-fit? c (Record.Request q) = go (both (le? 1 q.ticks) (le? q.ticks 60000))
+fit? c (Record.Request q) = go (both (dec_le 1 q.ticks) (dec_le q.ticks 60000))
   where
-    go : Decided (TicksInLimits q) → TicksInLimits q ⊎ ((e : Refusal) × Unfit c (Record.Request q) e)
-    go (inl h) = inl h
-    go (inr n) = inr (RequestOutsideLimits, (n, refl))
-fit? c (Record.Stop n) = go (both (le? 1 n) (le? n 2000000000))
+    go : Dec (TicksInLimits q) → TicksInLimits q ⊎ ((e : Refusal) × Unfit c (Record.Request q) e)
+    go (yes h) = inl h
+    go (no n) = inr (RequestOutsideLimits, (n, refl))
+fit? c (Record.Stop n) = go (both (dec_le 1 n) (dec_le n 2000000000))
   where
-    go : Decided (StopInRange n) → StopInRange n ⊎ ((e : Refusal) × Unfit c (Record.Stop n) e)
-    go (inl h) = inl h
-    go (inr k) = inr (TicksOutsideRange, (k, refl))
+    go : Dec (StopInRange n) → StopInRange n ⊎ ((e : Refusal) × Unfit c (Record.Stop n) e)
+    go (yes h) = inl h
+    go (no k) = inr (TicksOutsideRange, (k, refl))
 
 -- A record is allowed after a run, or refused.
 pub allowed_or_not : (c : Content) (x : Record) → Allowed c x ⊎ ((e : Refusal) × Unlawful c x e)
 allowed_or_not c x = go (placed? c x) (fit? c x)
   where
-    go : Decided (InPlace c x) → Fit c x ⊎ ((e : Refusal) × Unfit c x e) → Allowed c x ⊎ ((e : Refusal) × Unlawful c x e)
-    go (inl p) (inl f) = inl (record { placed = p; fit = f })
-    go (inl p) (inr u) = inr (u.0, inr (p, u.1))
-    go (inr n) d = inr (RecordOutOfPlace, inl (n, refl))
+    go : Dec (InPlace c x) → Fit c x ⊎ ((e : Refusal) × Unfit c x e) → Allowed c x ⊎ ((e : Refusal) × Unlawful c x e)
+    go (yes p) (inl f) = inl (record { placed = p; fit = f })
+    go (yes p) (inr u) = inr (u.0, inr (p, u.1))
+    go (no n) d = inr (RecordOutOfPlace, inl (n, refl))
 
 unfit_not_fit : (c : Content) (x : Record) (e : Refusal) → Fit c x → Unfit c x e → ⊥
 unfit_not_fit c (Record.Row cost deadline period) e f (inl u) = omega (arith, f.0, u.0)
