@@ -3,7 +3,8 @@ use Rattle.std.specs.Prelude.{◌≡◌, ◌<◌, ◌≤◌, ◌⊎◌, List, []
 use Rattle.model.specs.declared.draft.Draft.{Draft}
 use Rattle.model.specs.declared.refusal.Refusal.{Refusal}
 use Rattle.model.specs.declared.refusal.Refusal.TheVariants.{RowOutsideLimits, SeventeenthRow}
-use Rattle.model.specs.Rows.{Times, times_of, InLimits}
+use Rattle.model.specs.declared.row.Times.{Times}
+use Rattle.model.specs.Rows.{times_of, InLimits}
 use Rattle.model.specs.Slots.{items_of}
 
 -- The rows of a draft, row 1 first.

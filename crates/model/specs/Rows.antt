@@ -3,12 +3,7 @@ use Rattle.std.specs.Prelude.{◌≡◌, ℕ, ◌≤◌, Ok, Err, Result}
 use Rattle.model.specs.declared.refusal.Refusal.{Refusal}
 use Rattle.model.specs.declared.refusal.Refusal.TheVariants.{RowOutsideLimits}
 use Rattle.model.specs.declared.row.Row.{Row}
-
--- The numbers of a row, in ticks.
-pub record Times : Type 0 where
-  pub cost : ℕ
-  pub deadline : ℕ
-  pub period : ℕ
+use Rattle.model.specs.declared.row.Times.{Times}
 
 -- The numbers of these three.
 abbrev pub times : ℕ → ℕ → ℕ → Times

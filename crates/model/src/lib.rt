@@ -10,5 +10,5 @@ pub mod slots;
 pub use draft::Draft;
 pub use refusal::{PlacedRefusal, Refusal};
 pub use request::Request;
-pub use row::Row;
+pub use row::{Row, Times};
 pub use slots::Slots;

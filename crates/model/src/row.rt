@@ -3,6 +3,14 @@ ghost use Rattle.std.specs.Prelude.{◌≤◌};
 
 mod limits;
 
+// The numbers of a row, in ticks, as they are handed in: nothing is known of them yet.
+#[derive(Clone, Copy, Debug, PartialEq, Eq)]
+pub struct Times {
+    pub cost: u16,
+    pub deadline: u16,
+    pub period: u16,
+}
+
 // A periodic task, in ticks: each of its jobs takes `cost` ticks and is due `deadline` ticks after
 // its release, and a job is released every `period` ticks. No value breaks the limits.
 #[derive(Clone, Copy, Debug, PartialEq, Eq)]
@@ -14,13 +22,4 @@ pub struct Row {
     ghost fits: { cost ≤ deadline },
     ghost within: { deadline ≤ period },
     ghost limit: { period ≤ 60000 },
-}
-
-impl Row {
-    // The row 1, 2, 2, which stands where none has been put.
-    pub(crate) const UNFILLED: Row = Row {
-        cost: 1,
-        deadline: 2,
-        period: 2,
-    };
 }

@@ -1,11 +1,11 @@
 // Collecting rows in a draft.
 ghost use Rattle.std.specs.Prelude.{◌≡◌, [], map};
 ghost use Rattle.model.specs.Drafts.{rows_of, Added};
-ghost use Rattle.model.specs.Rows.{times, times_of};
+ghost use Rattle.model.specs.Rows.{times_of};
 
 use super::Draft;
 use crate::refusal::Refusal;
-use crate::row::Row;
+use crate::row::{Row, Times};
 use crate::slots::Slots;
 
 impl Draft {
@@ -18,14 +18,14 @@ impl Draft {
         }
     }
 
-    // Adds the row of these three numbers after the others, or refuses with 2 or 1.
-    pub fn add(&mut self, cost: u16, deadline: u16, period: u16) -> Result<(), Refusal>
-        ensures { Added (rows_of self.old) (times cost deadline period) result (rows_of self.new) }
+    // Adds the row of these numbers after the others, or refuses with 2 or 1.
+    pub fn add(&mut self, times: Times) -> Result<(), Refusal>
+        ensures { Added (rows_of self.old) times result (rows_of self.new) }
     {
         if self.rows.is_full() {
             return Err(Refusal::SeventeenthRow);
         }
-        let row = Row::new(cost, deadline, period)?;
+        let row = Row::new(times)?;
         self.rows.push(row).map_err(|_| Refusal::SeventeenthRow)
     }
 
