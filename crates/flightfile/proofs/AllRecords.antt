@@ -6,12 +6,13 @@ use Rattle.std.specs.Option.{option_to_list}
 use Rattle.model.specs.Drafts.{rows_of}
 use Rattle.model.specs.declared.refusal.Refusal.{Refusal}
 use Rattle.model.specs.declared.row.Row.{Row}
-use Rattle.model.specs.Rows.{Times, times_of}
+use Rattle.model.specs.declared.row.Times.{Times}
+use Rattle.model.specs.Rows.{times_of}
 use Rattle.flightfile.specs.declared.file.FlightFile.{FlightFile}
 use Rattle.flightfile.specs.declared.record.Record.{Record}
 use Rattle.model.specs.declared.request.Request.{Request}
 use Rattle.flightfile.specs.Answers.{Says}
-use Rattle.flightfile.specs.Contents.{Content, content, row_record, bytes}
+use Rattle.flightfile.specs.Contents.{Content, content, bytes}
 use Rattle.flightfile.specs.Reading.{content_of}
 use Rattle.flightfile.specs.Records.{encode}
 use Rattle.flightfile.specs.Writing.{Written, WrittenBack}
@@ -35,7 +36,7 @@ module _ {X : Type 0} (f : X → Record) where
   encode_front n xs =
       omega (arith, ap (λ l. length (encode_all f l)) (take-append-drop n xs), ap length (encode_parts (take n xs) (drop n xs)), length-append (encode_all f (take n xs)) (encode_all f (drop n xs)))
 
-rows_long : (ts : List Times) → length (encode_all row_record ts) ≡ 7 * length ts
+rows_long : (ts : List Times) → length (encode_all Record.Row ts) ≡ 7 * length ts
 rows_long [] = refl
 rows_long (t ∷ ts) = omega (arith, rows_long ts)
 
@@ -46,30 +47,30 @@ requests_long (q ∷ qs) = omega (arith, requests_long qs)
 -- The requests of a content are a part of its bytes.
 pub requests_fit : (c : Content) → 9 * length c.requests ≤ length (bytes c)
 requests_fit c =
-    let rows : List Record = map row_record c.rows in
+    let rows : List Record = map Record.Row c.rows in
     let asked : List Record = map Record.Request c.requests in
     let stop : List Record = map Record.Stop (option_to_list c.stop) in
     omega (arith, requests_long c.requests, ap length (flat_map-append encode rows (asked ++ stop)), length-append (flat_map encode rows) (flat_map encode (asked ++ stop)), ap length (flat_map-append encode asked stop), length-append (flat_map encode asked) (flat_map encode stop))
 
 -- The bytes of a whole content: its rows', its requests' and its stop's.
-pub bytes_parts : (ts : List Times) (qs : List Request) (n : ℕ) → bytes (content ts qs (Some n)) ≡ encode_all row_record ts ++ (encode_all Record.Request qs ++ encode (Record.Stop n))
-bytes_parts ts qs n = flat_map-append encode (map row_record ts) _ ∙ ap (λ l. encode_all row_record ts ++ l) (flat_map-append encode (map Record.Request qs) _)
+pub bytes_parts : (ts : List Times) (qs : List Request) (n : ℕ) → bytes (content ts qs (Some n)) ≡ encode_all Record.Row ts ++ (encode_all Record.Request qs ++ encode (Record.Stop n))
+bytes_parts ts qs n = flat_map-append encode (map Record.Row ts) _ ∙ ap (λ l. encode_all Record.Row ts ++ l) (flat_map-append encode (map Record.Request qs) _)
 
 pub bytes_long : (ts : List Times) (qs : List Request) (n : ℕ) → length (bytes (content ts qs (Some n))) ≡ 7 * length ts + 9 * length qs + 5
 bytes_long ts qs n =
-    omega (arith, ap length (bytes_parts ts qs n), length-append (encode_all row_record ts) (encode_all Record.Request qs ++ encode (Record.Stop n)), length-append (encode_all Record.Request qs) (encode (Record.Stop n)), rows_long ts, requests_long qs)
+    omega (arith, ap length (bytes_parts ts qs n), length-append (encode_all Record.Row ts) (encode_all Record.Request qs ++ encode (Record.Stop n)), length-append (encode_all Record.Request qs) (encode (Record.Stop n)), rows_long ts, requests_long qs)
 
 -- The bytes of a flight file as its rows, its requests and its stop are written.
 module _ (f : FlightFile) (rs : List Row) (same : map times_of rs ≡ rows_of f.rows) where
-  pub file_parts : (qs : List Request) → qs ≡ vec_items f.requests → bytes (content_of f) ≡ encode_all (λ r. row_record (times_of r)) rs ++ (encode_all Record.Request qs ++ encode (Record.Stop f.stop))
+  pub file_parts : (qs : List Request) → qs ≡ vec_items f.requests → bytes (content_of f) ≡ encode_all (λ r. Record.Row (times_of r)) rs ++ (encode_all Record.Request qs ++ encode (Record.Stop f.stop))
   file_parts qs e =
       bytes_parts (rows_of f.rows) (vec_items f.requests) f.stop
-      ∙ ap (λ l. l ++ (encode_all Record.Request (vec_items f.requests) ++ encode (Record.Stop f.stop))) (ap (encode_all row_record) (sym same) ∙ ap (flat_map encode) (map-map row_record times_of rs))
-      ∙ ap (λ l. encode_all (λ r. row_record (times_of r)) rs ++ (encode_all Record.Request l ++ encode (Record.Stop f.stop))) (sym e)
+      ∙ ap (λ l. l ++ (encode_all Record.Request (vec_items f.requests) ++ encode (Record.Stop f.stop))) (ap (encode_all Record.Row) (sym same) ∙ ap (flat_map encode) (map-map Record.Row times_of rs))
+      ∙ ap (λ l. encode_all (λ r. Record.Row (times_of r)) rs ++ (encode_all Record.Request l ++ encode (Record.Stop f.stop))) (sym e)
 
-  pub file_long : (qs : List Request) → qs ≡ vec_items f.requests → length (encode_all (λ r. row_record (times_of r)) rs) + length (encode_all Record.Request qs) + 5 ≡ length (bytes (content_of f))
+  pub file_long : (qs : List Request) → qs ≡ vec_items f.requests → length (encode_all (λ r. Record.Row (times_of r)) rs) + length (encode_all Record.Request qs) + 5 ≡ length (bytes (content_of f))
   file_long qs e =
-      let a : List ℕ = encode_all (λ r. row_record (times_of r)) rs in
+      let a : List ℕ = encode_all (λ r. Record.Row (times_of r)) rs in
       let b : List ℕ = encode_all Record.Request qs in
       omega (arith, ap length (file_parts qs e), length-append a (b ++ encode (Record.Stop f.stop)), length-append b (encode (Record.Stop f.stop)))
 

@@ -6,6 +6,7 @@ use Rattle.model.specs.declared.refusal.Refusal.{Refusal}
 use Rattle.model.specs.declared.refusal.Refusal.TheVariants.{EndInsideRecord, UnknownKind}
 use Rattle.flightfile.specs.declared.record.Record.{Record}
 use Rattle.model.specs.declared.request.Request.{Request}
+use Rattle.model.specs.declared.row.Times.{Times}
 use Rattle.flightfile.specs.Records.{Bytes, little_endian, body_length, Unreadable, Begins}
 
 -- The k bytes from place i on.
@@ -43,13 +44,13 @@ module _ (bs : List ℕ) (byte : Bytes bs) where
   four : (i n : ℕ) → n ≡ get_or bs i 0 + get_or bs (suc i) 0 * 256 + get_or bs (suc (suc i)) 0 * 65536 + get_or bs (suc (suc (suc i))) 0 * 16777216 → little_endian 4 n ≡ reads bs i 4
   four i n e = let f : n ≡ number (reads bs i 4) = omega arith in ap (little_endian 4) f ∙ field i 4
 
-  pub begins_row : (c d t : ℕ) → 7 ≤ length bs → get_or bs 0 0 ≡ 0x52 → c ≡ get_or bs 1 0 + get_or bs 2 0 * 256 → d ≡ get_or bs 3 0 + get_or bs 4 0 * 256 → t ≡ get_or bs 5 0 + get_or bs 6 0 * 256 → Begins bs (Record.Row c d t) (drop 7 bs)
-  begins_row c d t long kind ec ed et = record {
+  pub begins_row : (t : Times) → 7 ≤ length bs → get_or bs 0 0 ≡ 0x52 → t.cost ≡ get_or bs 1 0 + get_or bs 2 0 * 256 → t.deadline ≡ get_or bs 3 0 + get_or bs 4 0 * 256 → t.period ≡ get_or bs 5 0 + get_or bs 6 0 * 256 → Begins bs (Record.Row t) (drop 7 bs)
+  begins_row t long kind ec ed et = record {
     encodable = (omega (arith, byte 1, byte 2), omega (arith, byte 3, byte 4), omega (arith, byte 5, byte 6));
     split =
         reads-drop bs 0 7 long
         ∙ ap (λ k. k ∷ reads bs 1 6 ++ drop 7 bs) kind
-        ∙ ap (λ l. l ++ drop 7 bs) (sym (same_fields 0x52 _ _ _ _ _ _ (two 1 c ec) (two 3 d ed) (two 5 t et)));
+        ∙ ap (λ l. l ++ drop 7 bs) (sym (same_fields 0x52 _ _ _ _ _ _ (two 1 t.cost ec) (two 3 t.deadline ed) (two 5 t.period et)));
   }
 
   pub begins_request : (q : Request) → 9 ≤ length bs → get_or bs 0 0 ≡ 0x51 → q.arrival ≡ get_or bs 1 0 + get_or bs 2 0 * 256 + get_or bs 3 0 * 65536 + get_or bs 4 0 * 16777216 → q.number ≡ get_or bs 5 0 + get_or bs 6 0 * 256 → q.ticks ≡ get_or bs 7 0 + get_or bs 8 0 * 256 → Begins bs (Record.Request q) (drop 9 bs)
@@ -86,21 +87,21 @@ four_same m n h k e =
 
 -- Bytes begin with one record at most.
 pub begins_same : (bs : List ℕ) (x y : Record) (r s : List ℕ) → Begins bs x r → Begins bs y s → (x ≡ y) × (r ≡ s)
-begins_same bs (Record.Row c d t) (Record.Row c' d' t') r s p q =
-    let ec : c ≡ c' = two_same c c' p.encodable.0 q.encodable.0 (cc) in
-    let ed : d ≡ d' = two_same d d' p.encodable.1 q.encodable.1 (cc) in
-    let et : t ≡ t' = two_same t t' p.encodable.2 q.encodable.2 (cc) in
-    (cc, cc)
-begins_same bs (Record.Row c d t) (Record.Request v) r s p q = let z : ◌≡◌ {A = ℕ} 0x52 0x51 = cc in absurd (omega arith)
-begins_same bs (Record.Row c d t) (Record.Stop m) r s p q = let z : ◌≡◌ {A = ℕ} 0x52 0x53 = cc in absurd (omega arith)
-begins_same bs (Record.Request u) (Record.Row c d t) r s p q = let z : ◌≡◌ {A = ℕ} 0x51 0x52 = cc in absurd (omega arith)
+begins_same bs (Record.Row t) (Record.Row t') r s p q =
+    let ec : t.cost ≡ t'.cost = two_same t.cost t'.cost p.encodable.0 q.encodable.0 (cc) in
+    let ed : t.deadline ≡ t'.deadline = two_same t.deadline t'.deadline p.encodable.1 q.encodable.1 (cc) in
+    let et : t.period ≡ t'.period = two_same t.period t'.period p.encodable.2 q.encodable.2 (cc) in
+    (λ i. Record.Row (record { cost = ec i; deadline = ed i; period = et i }), cc)
+begins_same bs (Record.Row t) (Record.Request v) r s p q = let z : ◌≡◌ {A = ℕ} 0x52 0x51 = cc in absurd (omega arith)
+begins_same bs (Record.Row t) (Record.Stop m) r s p q = let z : ◌≡◌ {A = ℕ} 0x52 0x53 = cc in absurd (omega arith)
+begins_same bs (Record.Request u) (Record.Row t) r s p q = let z : ◌≡◌ {A = ℕ} 0x51 0x52 = cc in absurd (omega arith)
 begins_same bs (Record.Request u) (Record.Request v) r s p q =
     let ea : u.arrival ≡ v.arrival = four_same u.arrival v.arrival p.encodable.0 q.encodable.0 (cc) in
     let en : u.number ≡ v.number = two_same u.number v.number p.encodable.1 q.encodable.1 (cc) in
     let et : u.ticks ≡ v.ticks = two_same u.ticks v.ticks p.encodable.2 q.encodable.2 (cc) in
     (λ i. Record.Request (record { arrival = ea i; number = en i; ticks = et i }), cc)
 begins_same bs (Record.Request u) (Record.Stop m) r s p q = let z : ◌≡◌ {A = ℕ} 0x51 0x53 = cc in absurd (omega arith)
-begins_same bs (Record.Stop n) (Record.Row c d t) r s p q = let z : ◌≡◌ {A = ℕ} 0x53 0x52 = cc in absurd (omega arith)
+begins_same bs (Record.Stop n) (Record.Row t) r s p q = let z : ◌≡◌ {A = ℕ} 0x53 0x52 = cc in absurd (omega arith)
 begins_same bs (Record.Stop n) (Record.Request v) r s p q = let z : ◌≡◌ {A = ℕ} 0x53 0x51 = cc in absurd (omega arith)
 begins_same bs (Record.Stop n) (Record.Stop m) r s p q =
     let en : n ≡ m = four_same n m p.encodable q.encodable (cc) in
@@ -108,7 +109,7 @@ begins_same bs (Record.Stop n) (Record.Stop m) r s p q =
 
 -- What follows the kind byte of a record, by its length.
 body_of : (x : Record) (k : ℕ) (body r : List ℕ) → Begins (k ∷ body) x r → (n : ℕ) × (body_length k ≡ Some n) × (n ≤ length body)
-body_of (Record.Row c d t) k body r p = let kind : k ≡ 0x52 = cc in (6, ap body_length kind, omega (arith, ap length p.split))
+body_of (Record.Row t) k body r p = let kind : k ≡ 0x52 = cc in (6, ap body_length kind, omega (arith, ap length p.split))
 body_of (Record.Request q) k body r p = let kind : k ≡ 0x51 = cc in (8, ap body_length kind, omega (arith, ap length p.split))
 body_of (Record.Stop n) k body r p = let kind : k ≡ 0x53 = cc in (4, ap body_length kind, omega (arith, ap length p.split))
 
@@ -145,7 +146,7 @@ begins_or_not (k ∷ body) some byte = by_kind (cases_eq k 0x52) (cases_eq k 0x5
 
     row : k ≡ 0x52 → (length body < 6) ⊎ (6 ≤ length body) → Told
     row e (inl h) = short 6 (ap body_length e) h
-    row e (inr h) = inl (_, _, begins_row (k ∷ body) byte _ _ _ (omega arith) e refl refl refl)
+    row e (inr h) = inl (_, _, begins_row (k ∷ body) byte (record { cost = _; deadline = _; period = _ }) (omega arith) e refl refl refl)
 
     request : k ≡ 0x51 → (length body < 8) ⊎ (8 ≤ length body) → Told
     request e (inl h) = short 8 (ap body_length e) h

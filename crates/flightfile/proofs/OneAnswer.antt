@@ -6,11 +6,12 @@ use Rattle.std.specs.List.{flat_map, AllByRecursion}
 use Rattle.std.specs.Option.{option_to_list}
 use Rattle.model.specs.declared.refusal.Refusal.{Refusal}
 use Rattle.model.specs.declared.refusal.Refusal.TheVariants.{FileTooLong, NoStopRecord}
-use Rattle.model.specs.Rows.{Times, InLimits}
+use Rattle.model.specs.declared.row.Times.{Times}
+use Rattle.model.specs.Rows.{InLimits}
 use Rattle.flightfile.specs.declared.record.Record.{Record}
 use Rattle.model.specs.declared.request.Request.{Request}
 use Rattle.flightfile.specs.Answers.{last_arrival, Unlawful, Wrong, Unstopped, Front, Answer, says, refused, Answers, OneAnswer, LongestRun}
-use Rattle.flightfile.specs.Contents.{Content, content, row_record, records, bytes, RequestLawful, NotFalling, StopInRange, Lawful}
+use Rattle.flightfile.specs.Contents.{Content, content, records, bytes, RequestLawful, NotFalling, StopInRange, Lawful}
 use Rattle.flightfile.specs.Records.{Bytes, encode, Encodable, Unreadable, Begins}
 use Rattle.flightfile.specs.Progress.{Allowed, extend}
 use Rattle.flightfile.proofs.FirstRecord.{begins_same, begins_readable, begins_or_not}
@@ -25,13 +26,13 @@ goes_append : (c d e : Content) (xs ys : List Record) → Goes c xs d → Goes d
 goes_append c d e [] ys g h = subst (λ z. Goes z ys e) (sym g) h
 goes_append c d e (x ∷ xs) ys g h = (g.0, g.1, goes_append (extend c x) d e xs ys g.2 h)
 
-rows_go : (before ts : List Times) → length before + length ts ≤ 16 → AllByRecursion InLimits ts → Goes (content before [] None) (map row_record ts) (content (before ++ ts) [] None)
+rows_go : (before ts : List Times) → length before + length ts ≤ 16 → AllByRecursion InLimits ts → Goes (content before [] None) (map Record.Row ts) (content (before ++ ts) [] None)
 rows_go before [] few h = ap (λ l. content l [] None) (sym (append-nil before))
 rows_go before (t ∷ ts) few h =
     let l = h.0 in (
       (omega arith, omega arith, omega arith),
       record { placed = (refl, refl); fit = (omega arith, l) },
-      subst (λ l. Goes (content (before ++ t ∷ []) [] None) (map row_record ts) (content l [] None)) (append_assoc before (t ∷ []) ts) (rows_go (before ++ t ∷ []) ts (omega (arith, length_push before t)) h.1),
+      subst (λ l. Goes (content (before ++ t ∷ []) [] None) (map Record.Row ts) (content l [] None)) (append_assoc before (t ∷ []) ts) (rows_go (before ++ t ∷ []) ts (omega (arith, length_push before t)) h.1),
     )
 
 requests_go : (rows : List Times) (before qs : List Request) → AllByRecursion RequestLawful qs → NotFalling (last_arrival 0 before) qs → Goes (content rows before None) (map Record.Request qs) (content rows (before ++ qs) None)
@@ -50,7 +51,7 @@ stop_goes rows qs (Some n) h = let l = h.0 in (omega arith, record { placed = re
 -- A lawful content is reached by its records.
 lawful_goes : (c : Content) → Lawful c → Goes (content [] [] None) (records c) c
 lawful_goes c h =
-    goes_append _ (content c.rows [] None) c (map row_record c.rows) _ (rows_go [] c.rows (omega (arith, h.few)) h.rows)
+    goes_append _ (content c.rows [] None) c (map Record.Row c.rows) _ (rows_go [] c.rows (omega (arith, h.few)) h.rows)
     (goes_append _ (content c.rows c.requests None) c (map Record.Request c.requests) _ (requests_go c.rows [] c.requests h.requests h.order) (stop_goes c.rows c.requests c.stop h.stop))
 
 -- No allowed record begins these bytes.
@@ -85,7 +86,7 @@ one_run : (bs : List ℕ) (c d : Content) (r s : List ℕ) → Lawful c → Lawf
 one_run bs c d r s h k p q = one_way (records c) (records d) (content [] [] None) c d r s (lawful_goes c h) (lawful_goes d k) (sym p ∙ q)
 
 nothing_begins : (x : Record) (rest : List ℕ) → Begins [] x rest → ⊥
-nothing_begins (Record.Row _ _ _) rest b = let z : ◌≡◌ {A = ℕ} 0 1 = cc in omega arith
+nothing_begins (Record.Row _) rest b = let z : ◌≡◌ {A = ℕ} 0 1 = cc in omega arith
 nothing_begins (Record.Request _) rest b = let z : ◌≡◌ {A = ℕ} 0 1 = cc in omega arith
 nothing_begins (Record.Stop _) rest b = let z : ◌≡◌ {A = ℕ} 0 1 = cc in omega arith
 
@@ -176,7 +177,7 @@ bytes_after [] ys h = h
 bytes_after (x ∷ xs) ys h = bytes_after xs ys (λ i. h (suc i))
 
 pub record_long : (x : Record) (rest : List ℕ) → length rest < length (encode x ++ rest)
-record_long (Record.Row _ _ _) rest = omega arith
+record_long (Record.Row _) rest = omega arith
 record_long (Record.Request _) rest = omega arith
 record_long (Record.Stop _) rest = omega arith
 

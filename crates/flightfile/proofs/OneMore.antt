@@ -8,33 +8,34 @@ use Rattle.std.specs.List.{flat_map}
 use Rattle.std.specs.Option.{option_to_list}
 use Rattle.model.specs.declared.refusal.Refusal.{Refusal}
 use Rattle.model.specs.declared.refusal.Refusal.TheVariants.{RowOutsideLimits, SeventeenthRow, TicksOutsideRange, RequestOutsideLimits, RecordOutOfPlace}
-use Rattle.model.specs.Rows.{Times, times, InLimits}
+use Rattle.model.specs.declared.row.Times.{Times}
+use Rattle.model.specs.Rows.{InLimits}
 use Rattle.flightfile.specs.declared.record.Record.{Record}
 use Rattle.model.specs.declared.request.Request.{Request}
 use Rattle.flightfile.specs.Answers.{last_arrival, InPlace, Unfit, Unlawful}
-use Rattle.flightfile.specs.Contents.{Content, row_record, records, bytes, TicksInLimits, RequestLawful, NotFalling, StopInRange, Lawful}
+use Rattle.flightfile.specs.Contents.{Content, records, bytes, TicksInLimits, RequestLawful, NotFalling, StopInRange, Lawful}
 use Rattle.flightfile.specs.Records.{encode, Encodable}
 use Rattle.flightfile.specs.Progress.{Fit, Allowed, extend}
 use Rattle.flightfile.proofs.Joined.{flat_map-push}
 
 records-extend : (c : Content) (x : Record) → InPlace c x → records (extend c x) ≡ records c ++ x ∷ []
-records-extend c (Record.Row cost deadline period) p =
-    let rows : List Record = map row_record c.rows in
+records-extend c (Record.Row t) p =
+    let rows : List Record = map Record.Row c.rows in
     let none : map Record.Request c.requests ++ map Record.Stop (option_to_list c.stop) ≡ [] = rw (p.0, p.1) refl in
-    let r : Record = Record.Row cost deadline period in
-    ap (λ l. map row_record (c.rows ++ times cost deadline period ∷ []) ++ l) none
+    let r : Record = Record.Row t in
+    ap (λ l. map Record.Row (c.rows ++ t ∷ []) ++ l) none
     ∙ append-nil _
-    ∙ map_push row_record c.rows (times cost deadline period)
+    ∙ map_push Record.Row c.rows t
     ∙ ap (λ l. l ++ r ∷ []) (sym (append-nil rows) ∙ ap (λ l. rows ++ l) (sym none))
 records-extend c (Record.Request q) p =
-    let rows : List Record = map row_record c.rows in
+    let rows : List Record = map Record.Row c.rows in
     let asked : List Record = map Record.Request c.requests in
     let none : map Record.Stop (option_to_list c.stop) ≡ [] = rw p.1 refl in
     ap (λ l. rows ++ (map Record.Request (c.requests ++ q ∷ []) ++ l)) none
     ∙ ap (λ l. rows ++ l) (append-nil _ ∙ map_push Record.Request c.requests q ∙ ap (λ l. l ++ Record.Request q ∷ []) (sym (append-nil asked) ∙ ap (λ l. asked ++ l) (sym none)))
     ∙ sym (append_assoc rows (asked ++ map Record.Stop (option_to_list c.stop)) (Record.Request q ∷ []))
 records-extend c (Record.Stop n) p =
-    let rows : List Record = map row_record c.rows in
+    let rows : List Record = map Record.Row c.rows in
     let asked : List Record = map Record.Request c.requests in
     let none : map Record.Stop (option_to_list c.stop) ≡ [] = rw p refl in
     ap (λ l. rows ++ (l ++ Record.Stop n ∷ [])) (sym (append-nil asked) ∙ ap (λ l. asked ++ l) (sym none))
@@ -53,8 +54,8 @@ last_push a (p ∷ qs) q = last_push p.arrival qs q
 
 -- A lawful run goes on with an allowed record.
 pub lawful_extend : (c : Content) (x : Record) → Lawful c → Encodable x → Allowed c x → Lawful (extend c x)
-lawful_extend c (Record.Row cost deadline period) h e a = record {
-  few = omega (arith, length_push c.rows (times cost deadline period), a.fit.0);
+lawful_extend c (Record.Row t) h e a = record {
+  few = omega (arith, length_push c.rows t, a.fit.0);
   rows = All-push InLimits c.rows _ h.rows a.fit.1;
   requests = h.requests;
   order = h.order;
@@ -88,14 +89,14 @@ limits? t =
     (both (both (dec_le 1 t.cost) (dec_le t.cost t.deadline)) (both (dec_le t.deadline t.period) (dec_le t.period 60000)))
 
 placed? : (c : Content) (x : Record) → Dec (InPlace c x)
-placed? c (Record.Row _ _ _) = both (empty? c.requests) (none? c.stop)
+placed? c (Record.Row _) = both (empty? c.requests) (none? c.stop)
 placed? c (Record.Request q) = both (dec_le (last_arrival 0 c.requests) q.arrival) (none? c.stop)
 placed? c (Record.Stop _) = none? c.stop
 
 fit? : (c : Content) (x : Record) → Fit c x ⊎ ((e : Refusal) × Unfit c x e)
-fit? c (Record.Row cost deadline period) = go (cases_lt (length c.rows) 16) (limits? (times cost deadline period))
+fit? c (Record.Row t) = go (cases_lt (length c.rows) 16) (limits? t)
   where
-    go : (length c.rows < 16) ⊎ (16 ≤ length c.rows) → Dec (InLimits (times cost deadline period)) → Fit c (Record.Row cost deadline period) ⊎ ((e : Refusal) × Unfit c (Record.Row cost deadline period) e)
+    go : (length c.rows < 16) ⊎ (16 ≤ length c.rows) → Dec (InLimits t) → Fit c (Record.Row t) ⊎ ((e : Refusal) × Unfit c (Record.Row t) e)
     go (inl few) (yes h) = inl (few, h)
     go (inl few) (no n) = inr (RowOutsideLimits, inr (few, n, refl))
     go (inr full) d = inr (SeventeenthRow, inl (full, refl))
@@ -120,8 +121,8 @@ allowed_or_not c x = go (placed? c x) (fit? c x)
     go (no n) d = inr (RecordOutOfPlace, inl (n, refl))
 
 unfit_not_fit : (c : Content) (x : Record) (e : Refusal) → Fit c x → Unfit c x e → ⊥
-unfit_not_fit c (Record.Row cost deadline period) e f (inl u) = omega (arith, f.0, u.0)
-unfit_not_fit c (Record.Row cost deadline period) e f (inr u) = u.1 f.1
+unfit_not_fit c (Record.Row t) e f (inl u) = omega (arith, f.0, u.0)
+unfit_not_fit c (Record.Row t) e f (inr u) = u.1 f.1
 unfit_not_fit c (Record.Request q) e f u = u.0 f
 unfit_not_fit c (Record.Stop n) e f u = u.0 f
 
@@ -131,10 +132,10 @@ allowed_not_unlawful c x e a (inl u) = u.0 a.placed
 allowed_not_unlawful c x e a (inr u) = unfit_not_fit c x e a.fit u.1
 
 unfit_same : (c : Content) (x : Record) (e f : Refusal) → Unfit c x e → Unfit c x f → e ≡ f
-unfit_same c (Record.Row cost deadline period) e f (inl u) (inl v) = u.1 ∙ sym v.1
-unfit_same c (Record.Row cost deadline period) e f (inl u) (inr v) = absurd (omega (arith, u.0, v.0))
-unfit_same c (Record.Row cost deadline period) e f (inr u) (inl v) = absurd (omega (arith, u.0, v.0))
-unfit_same c (Record.Row cost deadline period) e f (inr u) (inr v) = u.2 ∙ sym v.2
+unfit_same c (Record.Row t) e f (inl u) (inl v) = u.1 ∙ sym v.1
+unfit_same c (Record.Row t) e f (inl u) (inr v) = absurd (omega (arith, u.0, v.0))
+unfit_same c (Record.Row t) e f (inr u) (inl v) = absurd (omega (arith, u.0, v.0))
+unfit_same c (Record.Row t) e f (inr u) (inr v) = u.2 ∙ sym v.2
 unfit_same c (Record.Request q) e f u v = u.1 ∙ sym v.1
 unfit_same c (Record.Stop n) e f u v = u.1 ∙ sym v.1
 

@@ -3,7 +3,6 @@ use Rattle.std.specs.Prelude.{◌≡◌, ℕ, ◌<◌, ◌≤◌, ◌⊎◌, Lis
 use Rattle.model.specs.declared.refusal.Refusal.{Refusal}
 use Rattle.model.specs.declared.refusal.Refusal.TheVariants.{TicksOutsideRange, RequestOutsideLimits, FileTooLong, RecordOutOfPlace, NoStopRecord}
 use Rattle.model.specs.Drafts.{Unaddable}
-use Rattle.model.specs.Rows.{times}
 use Rattle.flightfile.specs.declared.record.Record.{Record}
 use Rattle.model.specs.declared.request.Request.{Request}
 use Rattle.flightfile.specs.Contents.{Content, bytes, TicksInLimits, StopInRange, Lawful}
@@ -17,13 +16,13 @@ last_arrival a (q ∷ qs) = last_arrival q.arrival qs
 -- The record may stand after these: a row after no request, a request with no earlier arrival than
 -- the one before it, and nothing after the stop.
 abbrev pub InPlace : Content → Record → Type 0
-InPlace c (Record.Row _ _ _) = (c.requests ≡ []) × (c.stop ≡ None)
+InPlace c (Record.Row _) = (c.requests ≡ []) × (c.stop ≡ None)
 InPlace c (Record.Request q) = (last_arrival 0 c.requests ≤ q.arrival) × (c.stop ≡ None)
 InPlace c (Record.Stop _) = c.stop ≡ None
 
 -- What a record in its place is refused with for its own sake.
 abbrev pub Unfit : Content → Record → Refusal → Type 0
-Unfit c (Record.Row cost deadline period) e = Unaddable c.rows (times cost deadline period) e
+Unfit c (Record.Row t) e = Unaddable c.rows t e
 Unfit c (Record.Request q) e = (TicksInLimits q → ⊥) × (e ≡ RequestOutsideLimits)
 Unfit c (Record.Stop n) e = (StopInRange n → ⊥) × (e ≡ TicksOutsideRange)
 

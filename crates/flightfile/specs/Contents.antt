@@ -4,7 +4,8 @@ use Rattle.std.specs.Coded.{×_prop, Unit-prop, le_prop}
 use Rattle.std.specs.List.{flat_map, AllByRecursion, AllByRecursion-prop}
 use Rattle.std.specs.Option.{option_to_list}
 use Rattle.model.specs.Requests.{Askable}
-use Rattle.model.specs.Rows.{Times, InLimits}
+use Rattle.model.specs.declared.row.Times.{Times}
+use Rattle.model.specs.Rows.{InLimits}
 use Rattle.flightfile.specs.declared.record.Record.{Record}
 use Rattle.model.specs.declared.request.Request.{Request}
 use Rattle.flightfile.specs.Records.{encode}
@@ -19,13 +20,9 @@ pub record Content : Type 0 where
 abbrev pub content : List Times → List Request → Option ℕ → Content
 content rs qs s = record { rows = rs; requests = qs; stop = s }
 
--- The record of a row.
-abbrev pub row_record : Times → Record
-row_record t = Record.Row t.cost t.deadline t.period
-
 -- Its records in file order: the rows, the requests, the stop.
 abbrev pub records : Content → List Record
-records c = map row_record c.rows ++ (map Record.Request c.requests ++ map Record.Stop (option_to_list c.stop))
+records c = map Record.Row c.rows ++ (map Record.Request c.requests ++ map Record.Stop (option_to_list c.stop))
 
 -- The bytes of the file: those of its records in turn.
 abbrev pub bytes : Content → List ℕ

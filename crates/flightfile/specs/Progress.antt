@@ -4,7 +4,7 @@ use Rattle.std.specs.Prelude.{◌≡◌, ℕ, ◌<◌, ◌≤◌, [], ◌∷◌,
 use Rattle.model.specs.declared.refusal.Refusal.{Refusal}
 use Rattle.model.specs.declared.refusal.Refusal.TheVariants.{NoStopRecord}
 use Rattle.model.specs.Drafts.{rows_of}
-use Rattle.model.specs.Rows.{times, InLimits}
+use Rattle.model.specs.Rows.{InLimits}
 use Rattle.flightfile.specs.declared.file.FlightFile.{FlightFile}
 use Rattle.flightfile.specs.declared.reading.ReadError.{ReadError}
 use Rattle.flightfile.specs.declared.reader.Reader.{Reader}
@@ -17,7 +17,7 @@ use Rattle.flightfile.specs.Reading.{content_of}
 -- A record in its place is within its own limits: a row that a draft of the rows so far takes, a
 -- request of 1 to 60,000 ticks, a stop in its range.
 abbrev pub Fit : Content → Record → Type 0
-Fit c (Record.Row cost deadline period) = (length c.rows < 16) × InLimits (times cost deadline period)
+Fit c (Record.Row t) = (length c.rows < 16) × InLimits t
 Fit c (Record.Request q) = TicksInLimits q
 Fit c (Record.Stop n) = StopInRange n
 
@@ -28,7 +28,7 @@ pub record Allowed (c : Content) (x : Record) : Type 0 where
 
 -- These records and then that one.
 abbrev pub extend : Content → Record → Content
-extend c (Record.Row cost deadline period) = content (c.rows ++ times cost deadline period ∷ []) c.requests c.stop
+extend c (Record.Row t) = content (c.rows ++ t ∷ []) c.requests c.stop
 extend c (Record.Request q) = content c.rows (c.requests ++ q ∷ []) c.stop
 extend c (Record.Stop n) = content c.rows c.requests (Some n)
 

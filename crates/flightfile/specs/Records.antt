@@ -16,13 +16,13 @@ little_endian (suc k) n = n % 256 ∷ little_endian k (n / 256)
 
 -- The bytes of a record: its kind (R, Q or S) and its numbers.
 abbrev pub encode : Record → List ℕ
-encode (Record.Row c d t) = 0x52 ∷ (little_endian 2 c ++ (little_endian 2 d ++ little_endian 2 t))
+encode (Record.Row t) = 0x52 ∷ (little_endian 2 t.cost ++ (little_endian 2 t.deadline ++ little_endian 2 t.period))
 encode (Record.Request q) = 0x51 ∷ (little_endian 4 q.arrival ++ (little_endian 2 q.number ++ little_endian 2 q.ticks))
 encode (Record.Stop n) = 0x53 ∷ little_endian 4 n
 
 -- The record's numbers have a place in its bytes.
 abbrev pub Encodable : Record → Type 0
-Encodable (Record.Row c d t) = (c < 2 ^ 16) × (d < 2 ^ 16) × (t < 2 ^ 16)
+Encodable (Record.Row t) = (t.cost < 2 ^ 16) × (t.deadline < 2 ^ 16) × (t.period < 2 ^ 16)
 Encodable (Record.Request q) = (q.arrival < 2 ^ 32) × (q.number < 2 ^ 16) × (q.ticks < 2 ^ 16)
 Encodable (Record.Stop n) = n < 2 ^ 32
 

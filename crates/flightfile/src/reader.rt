@@ -54,16 +54,8 @@ impl Reader {
         ensures { Admitted self.old found place result self.new }
     {
         match (self.phase, found) {
-            (
-                Phase::Rows,
-                Record::Row {
-                    cost,
-                    deadline,
-                    period,
-                },
-            ) => {
-                let added = self.rows.add(cost, deadline, period);
-                Ok(added.map_err(|refusal| refusal.at(place))?)
+            (Phase::Rows, Record::Row(times)) => {
+                Ok(self.rows.add(times).map_err(|refusal| refusal.at(place))?)
             }
             (Phase::Rows, Record::Request(request)) => self.admit_request(0, request, place),
             (Phase::Requests { last }, Record::Request(request)) => self.admit_request(

@@ -4,6 +4,7 @@ ghost use Rattle.flightfile.specs.Records.{Split};
 
 use model::refusal::Refusal;
 pub use model::request::Request;
+pub use model::row::Times;
 
 // The kind bytes: the letters R, Q and S.
 pub(crate) const ROW: u8 = 0x52;
@@ -15,11 +16,7 @@ pub(crate) const STOP: u8 = 0x53;
 // What one record says. Nothing is known of the numbers yet.
 #[derive(Clone, Copy)]
 pub enum Record {
-    Row {
-        cost: u16,
-        deadline: u16,
-        period: u16,
-    },
+    Row(Times),
     Request(Request),
     Stop(u32),
 }
@@ -36,11 +33,11 @@ impl Record {
                 let deadline = u16::from_le_bytes([*d0, *d1]);
                 let period = u16::from_le_bytes([*t0, *t1]);
                 Ok((
-                    Record::Row {
+                    Record::Row(Times {
                         cost,
                         deadline,
                         period,
-                    },
+                    }),
                     rest,
                 ))
             }

@@ -1,9 +1,9 @@
 // Writing a flight file.
 ghost use Rattle.std.specs.Prelude.{◌≡◌, ◌+◌, ◌*◌, ◌≤◌, map, length};
 ghost use Rattle.flightfile.specs.Answers.{Says};
-ghost use Rattle.flightfile.specs.Contents.{bytes, row_record};
+ghost use Rattle.flightfile.specs.Contents.{bytes};
 ghost use Rattle.flightfile.specs.declared.record.Record.{Record as Meaning};
-ghost use Rattle.flightfile.specs.declared.record.Record.TheVariants.{Request as asked};
+ghost use Rattle.flightfile.specs.declared.record.Record.TheVariants.{Request as asked, Row as to_row};
 ghost use Rattle.flightfile.specs.Reading.{content_of};
 ghost use Rattle.flightfile.specs.Records.{encode};
 ghost use Rattle.flightfile.specs.Writing.{overwrite, Written, WrittenBack};
@@ -13,7 +13,7 @@ ghost use Rattle.std.specs.List.{flat_map};
 use crate::file::FlightFile;
 use crate::record::{REQUEST, ROW, Record, Request, STOP};
 use model::refusal::Refusal;
-use model::row::Row;
+use model::row::{Row, Times};
 
 // The bytes of each kind of record.
 const ROW_BYTES: usize = 7;
@@ -32,14 +32,10 @@ pub trait ToRecord {
 }
 
 impl ToRecord for Row {
-    ghost meaning = { λ r. row_record (times_of r) };
+    ghost meaning = { λ r. to_row (times_of r) };
 
     fn to_record(&self) -> Record {
-        Record::Row {
-            cost: self.cost,
-            deadline: self.deadline,
-            period: self.period,
-        }
+        Record::Row(Times::from(*self))
     }
 }
 
@@ -70,14 +66,10 @@ impl Record {
         ensures end { result ≡ at + length (encode self) }
     {
         match self {
-            Record::Row {
-                cost,
-                deadline,
-                period,
-            } => {
-                let [c0, c1] = cost.to_le_bytes();
-                let [d0, d1] = deadline.to_le_bytes();
-                let [t0, t1] = period.to_le_bytes();
+            Record::Row(times) => {
+                let [c0, c1] = times.cost.to_le_bytes();
+                let [d0, d1] = times.deadline.to_le_bytes();
+                let [t0, t1] = times.period.to_le_bytes();
                 put_bytes(out, at, &[ROW, c0, c1, d0, d1, t0, t1])
             }
             Record::Request(request) => {
