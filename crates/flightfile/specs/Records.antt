@@ -3,6 +3,7 @@ use Rattle.std.specs.Prelude.{◌≡◌, ℕ, zero, suc, ◌/◌, ◌%◌, ◌^�
 use Rattle.std.specs.Borrow.{Bor}
 use Rattle.model.specs.declared.refusal.Refusal.{Refusal}
 use Rattle.model.specs.declared.refusal.Refusal.TheVariants.{EndInsideRecord, UnknownKind}
+use Rattle.flightfile.specs.declared.record.Kind.{Kind}
 use Rattle.flightfile.specs.declared.record.Record.{Record}
 
 -- Each number is a byte.
@@ -29,6 +30,17 @@ Encodable (Record.Stop n) = n < 2 ^ 32
 -- How many bytes follow a kind byte; none if no record has that kind.
 abbrev pub body_length : ℕ → Option ℕ
 body_length k = cond (k == 0x52) (Some 6) (cond (k == 0x51) (Some 8) (cond (k == 0x53) (Some 4) None))
+
+-- The byte of a kind.
+abbrev pub kind_byte : Kind → ℕ
+kind_byte Kind.Row = 0x52
+kind_byte Kind.Request = 0x51
+kind_byte Kind.Stop = 0x53
+
+-- The byte is this kind's, or no kind's.
+abbrev pub KindRead : ℕ → Result Kind Refusal → Type 0
+KindRead byte (Ok kind) = byte ≡ kind_byte kind
+KindRead byte (Err e) = (body_length byte ≡ None) × (e ≡ UnknownKind)
 
 -- The first byte is no kind.
 abbrev pub Unknown : List ℕ → Type 0

@@ -1,17 +1,33 @@
 // The records of a flight file: a kind byte and a body whose length the kind fixes.
 ghost use Rattle.std.specs.Prelude.{◌<◌, length};
-ghost use Rattle.flightfile.specs.Records.{Split};
+ghost use Rattle.flightfile.specs.Records.{Split, KindRead};
 
 use model::refusal::Refusal;
 pub use model::request::Request;
 pub use model::row::Times;
 
-// The kind bytes: the letters R, Q and S.
-pub(crate) const ROW: u8 = 0x52;
+// The kinds of record. Each is its kind byte, a letter.
+#[derive(Clone, Copy, Debug, PartialEq, Eq)]
+pub enum Kind {
+    Row = b'R' as isize,
+    Request = b'Q' as isize,
+    Stop = b'S' as isize,
+}
 
-pub(crate) const REQUEST: u8 = 0x51;
+impl TryFrom<u8> for Kind {
+    type Error = Refusal;
 
-pub(crate) const STOP: u8 = 0x53;
+    ghost try_from_gives = { KindRead };
+
+    fn try_from(byte: u8) -> Result<Kind, Refusal> {
+        match byte {
+            b'R' => Ok(Kind::Row),
+            b'Q' => Ok(Kind::Request),
+            b'S' => Ok(Kind::Stop),
+            _ => Err(Refusal::UnknownKind),
+        }
+    }
+}
 
 // What one record says. Nothing is known of the numbers yet.
 #[derive(Clone, Copy)]
@@ -27,8 +43,9 @@ impl Record {
         requires { 0 < length bytes.now }
         ensures { Split bytes.now result }
     {
-        match bytes {
-            [ROW, c0, c1, d0, d1, t0, t1, rest @ ..] => {
+        let kind = Kind::try_from(bytes[0])?;
+        match (kind, bytes) {
+            (Kind::Row, [_, c0, c1, d0, d1, t0, t1, rest @ ..]) => {
                 let cost = u16::from_le_bytes([*c0, *c1]);
                 let deadline = u16::from_le_bytes([*d0, *d1]);
                 let period = u16::from_le_bytes([*t0, *t1]);
@@ -41,7 +58,7 @@ impl Record {
                     rest,
                 ))
             }
-            [REQUEST, a0, a1, a2, a3, n0, n1, t0, t1, rest @ ..] => {
+            (Kind::Request, [_, a0, a1, a2, a3, n0, n1, t0, t1, rest @ ..]) => {
                 let arrival = u32::from_le_bytes([*a0, *a1, *a2, *a3]);
                 let number = u16::from_le_bytes([*n0, *n1]);
                 let ticks = u16::from_le_bytes([*t0, *t1]);
@@ -54,12 +71,11 @@ impl Record {
                     rest,
                 ))
             }
-            [STOP, s0, s1, s2, s3, rest @ ..] => Ok((
+            (Kind::Stop, [_, s0, s1, s2, s3, rest @ ..]) => Ok((
                 Record::Stop(u32::from_le_bytes([*s0, *s1, *s2, *s3])),
                 rest,
             )),
-            [ROW | REQUEST | STOP, ..] => Err(Refusal::EndInsideRecord),
-            _ => Err(Refusal::UnknownKind),
+            _ => Err(Refusal::EndInsideRecord),
         }
     }
 }

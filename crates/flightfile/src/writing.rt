@@ -11,7 +11,7 @@ ghost use Rattle.model.specs.Rows.{times_of};
 ghost use Rattle.std.specs.List.{flat_map};
 
 use crate::file::FlightFile;
-use crate::record::{REQUEST, ROW, Record, Request, STOP};
+use crate::record::{Kind, Record, Request};
 use model::refusal::Refusal;
 use model::row::{Row, Times};
 
@@ -70,17 +70,21 @@ impl Record {
                 let [c0, c1] = times.cost.to_le_bytes();
                 let [d0, d1] = times.deadline.to_le_bytes();
                 let [t0, t1] = times.period.to_le_bytes();
-                put_bytes(out, at, &[ROW, c0, c1, d0, d1, t0, t1])
+                put_bytes(out, at, &[Kind::Row as u8, c0, c1, d0, d1, t0, t1])
             }
             Record::Request(request) => {
                 let [a0, a1, a2, a3] = request.arrival.to_le_bytes();
                 let [n0, n1] = request.number.to_le_bytes();
                 let [t0, t1] = request.ticks.to_le_bytes();
-                put_bytes(out, at, &[REQUEST, a0, a1, a2, a3, n0, n1, t0, t1])
+                put_bytes(
+                    out,
+                    at,
+                    &[Kind::Request as u8, a0, a1, a2, a3, n0, n1, t0, t1],
+                )
             }
             Record::Stop(ticks) => {
                 let [s0, s1, s2, s3] = ticks.to_le_bytes();
-                put_bytes(out, at, &[STOP, s0, s1, s2, s3])
+                put_bytes(out, at, &[Kind::Stop as u8, s0, s1, s2, s3])
             }
         }
     }
