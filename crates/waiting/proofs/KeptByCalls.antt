@@ -40,10 +40,10 @@ module _ (weight : WaitingRequest → ℕ) (out : Answer → ℕ) (b : Balanced 
       omega (arith, ap (sum_by weight) is, sum_by-remove weight old place unused h, b.leaves tick place q last, ap (λ (f : FinishedRequest). out (Answer.Serve (Some place) (Some f))) which)
 
   call_kept : (old new : List WaitingRequest) (call : Call) (answer : Answer) → Answered old call answer new → sum_by weight new + out answer ≡ sum_by weight old + sum_by weight (taken call answer)
-  call_kept old new (Call.Put number arrival ticks) (Answer.Put (Ok r)) (fits, room, is) =
-      omega (arith, ap (sum_by weight) is, sum_by_push weight old (fresh number arrival ticks), b.put (Ok r))
-  call_kept old new (Call.Put number arrival ticks) (Answer.Put (Err e)) (why, is) = omega (arith, ap (sum_by weight) is, b.put (Err e))
-  call_kept old new (Call.Put number arrival ticks) (Answer.Serve place back) bad = absurd bad
+  call_kept old new (Call.Put q) (Answer.Put (Ok r)) (fits, room, is) =
+      omega (arith, ap (sum_by weight) is, sum_by_push weight old (fresh q), b.put (Ok r))
+  call_kept old new (Call.Put q) (Answer.Put (Err e)) (why, is) = omega (arith, ap (sum_by weight) is, b.put (Err e))
+  call_kept old new (Call.Put q) (Answer.Serve place back) bad = absurd bad
   call_kept old new (Call.Serve tick) (Answer.Put r) bad = absurd bad
   call_kept old new (Call.Serve tick) (Answer.Serve place back) (within, served) =
       omega (arith, served_kept old new place tick back within served)

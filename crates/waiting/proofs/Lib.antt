@@ -1,4 +1,3 @@
 pub mod KeptByCalls
 pub mod OneMoreExchange
 pub mod Picks
-pub mod Tables

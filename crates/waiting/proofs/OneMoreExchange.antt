@@ -10,7 +10,7 @@ use Rattle.waiting.specs.Transcripts.{call_of, Answered, Transcript}
 
 -- What stands behind the end of a list of exchanges.
 abbrev pub blank : Exchange
-blank = record { call = Call.Put 0 0 0; answer = Answer.Put (Ok tt) }
+blank = record { call = Call.Put (record { arrival = 0; number = 0; ticks = 0 }); answer = Answer.Put (Ok tt) }
 
 -- The exchange at a place with another answer.
 abbrev pub answered_at : List Exchange → ℕ → Answer → Exchange

@@ -1,16 +1,18 @@
 -- The line: what putting, picking and serving do to the list of those who wait.
-use Rattle.std.specs.Prelude.{◌≡◌, ℕ, ◌<◌, ◌≤◌, ◌⊎◌, List, [], ◌∷◌, ◌++◌, length, take, Some, None, Ok, Err, Option, Result, slice_index_or, slice_set}
+use Rattle.std.specs.Prelude.{◌≡◌, ℕ, ◌<◌, ◌≤◌, ◌⊎◌, List, [], ◌∷◌, ◌++◌, length, Some, None, Ok, Err, Option, Result, slice_index_or, slice_set}
 use Rattle.std.specs.List.{remove}
 use Rattle.model.specs.declared.refusal.Refusal.{Refusal}
 use Rattle.model.specs.declared.refusal.Refusal.TheVariants.{RequestOutsideLimits, LineFull}
+use Rattle.model.specs.Requests.{Askable}
+use Rattle.model.specs.Slots.{items_of}
 use Rattle.waiting.specs.declared.line.Line.{Line}
 use Rattle.waiting.specs.declared.request.FinishedRequest.{FinishedRequest}
 use Rattle.waiting.specs.declared.request.WaitingRequest.{WaitingRequest}
-use Rattle.waiting.specs.Requests.{unused, given, finished_by, Askable}
+use Rattle.waiting.specs.Requests.{unused, given, finished_by}
 
--- The requests in a line's table, the earliest put first.
+-- The requests in a line, the earliest put first.
 abbrev pub requests_of : Line → List WaitingRequest
-requests_of l = take l.len l.slots
+requests_of l = items_of l.requests
 
 -- Why a request of so many ticks cannot be put: the ticks are outside the limits, or else sixty-four wait.
 abbrev pub Unputtable : List WaitingRequest → ℕ → Refusal → Type 0

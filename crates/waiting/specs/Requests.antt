@@ -1,6 +1,7 @@
 -- Requests: as they are put, after a tick given to them, and as they are handed back.
 use Rattle.std.specs.Prelude.{ℕ, ◌-◌, ◌≤◌, Some, None}
 use Rattle.std.specs.Option.{unwrap_or}
+use Rattle.model.specs.declared.request.Request.{Request}
 use Rattle.waiting.specs.declared.request.FinishedRequest.{FinishedRequest}
 use Rattle.waiting.specs.declared.request.WaitingRequest.{WaitingRequest}
 
@@ -8,9 +9,9 @@ use Rattle.waiting.specs.declared.request.WaitingRequest.{WaitingRequest}
 abbrev pub unused : WaitingRequest
 unused = record { number = 0; arrival = 0; started = None; left = 0 }
 
--- A request as it is put: it asks for so many ticks and has had none.
-abbrev pub fresh : ℕ → ℕ → ℕ → WaitingRequest
-fresh number arrival ticks = record { number = number; arrival = arrival; started = None; left = ticks }
+-- A request as it is put: it asks for its ticks and has had none.
+abbrev pub fresh : Request → WaitingRequest
+fresh q = record { number = q.number; arrival = q.arrival; started = None; left = q.ticks }
 
 -- The first tick at which the request was served, if it is served at this one.
 abbrev pub started_by : ℕ → WaitingRequest → ℕ
@@ -28,7 +29,3 @@ finished_by tick q = record { number = q.number; arrival = q.arrival; started = 
 -- The request still asks for a tick.
 abbrev pub Unfinished : WaitingRequest → Type 0
 Unfinished q = 1 ≤ q.left
-
--- As many ticks as a request may ask for: 1 to 60,000.
-abbrev pub Askable : ℕ → Type 0
-Askable ticks = (1 ≤ ticks) × (ticks ≤ 60000)

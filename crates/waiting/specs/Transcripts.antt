@@ -15,8 +15,8 @@ call_of x = x.call
 
 -- The call was answered as it is defined, and turned the line `old` into `new`.
 abbrev pub Answered : List WaitingRequest → Call → Answer → List WaitingRequest → Type 0
-Answered old (Call.Put number arrival ticks) (Answer.Put taken) new = Put old (fresh number arrival ticks) taken new
-Answered old (Call.Put number arrival ticks) (Answer.Serve place finished) new = ⊥
+Answered old (Call.Put q) (Answer.Put taken) new = Put old (fresh q) taken new
+Answered old (Call.Put q) (Answer.Serve place finished) new = ⊥
 Answered old (Call.Serve tick) (Answer.Put taken) new = ⊥
 Answered old (Call.Serve tick) (Answer.Serve place finished) new = PickedFrom old place × Served old place tick finished new
 
@@ -27,9 +27,9 @@ Transcript old (x ∷ xs) new = (next : List WaitingRequest) × Answered old x.c
 
 -- The request that a call put into the line, as it was put; none if the call was another or was refused.
 abbrev pub taken : Call → Answer → List WaitingRequest
-taken (Call.Put number arrival ticks) (Answer.Put (Ok _)) = fresh number arrival ticks ∷ []
-taken (Call.Put number arrival ticks) (Answer.Put (Err _)) = []
-taken (Call.Put number arrival ticks) (Answer.Serve place finished) = []
+taken (Call.Put q) (Answer.Put (Ok _)) = fresh q ∷ []
+taken (Call.Put q) (Answer.Put (Err _)) = []
+taken (Call.Put q) (Answer.Serve place finished) = []
 taken (Call.Serve tick) answer = []
 
 -- The ticks given to requests: one if a serve found somebody waiting.

@@ -5,18 +5,13 @@ ghost use Rattle.waiting.specs.Transcripts.{call_of, Answered, Transcript, Ticks
 use crate::order::WaitingOrder;
 use crate::request::FinishedRequest;
 use model::refusal::Refusal;
+use model::request::Request;
 
 // A call that changes who waits.
 #[derive(Clone, Copy, Debug, PartialEq, Eq)]
 pub enum Call {
-    Put {
-        number: u16,
-        arrival: u32,
-        ticks: u16,
-    },
-    Serve {
-        tick: u32,
-    },
+    Put(Request),
+    Serve { tick: u32 },
 }
 
 // What such a call came to.
@@ -43,11 +38,7 @@ fn make_call<W: WaitingOrder>(order: &mut W, call: Call) -> Answer
     ensures { Answered (W.waiting order.old) call result (W.waiting order.new) }
 {
     match call {
-        Call::Put {
-            number,
-            arrival,
-            ticks,
-        } => Answer::Put(order.put(number, arrival, ticks)),
+        Call::Put(request) => Answer::Put(order.put(request)),
         Call::Serve { tick } => {
             let place = order.pick();
             let finished = order.serve(tick);

@@ -1,18 +1,19 @@
 // The line: the requests that wait, in order of submission.
-ghost use Rattle.std.specs.Prelude.{◌≡◌, ℕ, ◌<◌, ◌≤◌, length, slice_index_or};
-ghost use Rattle.waiting.specs.Requests.{unused};
+ghost use Rattle.std.specs.Prelude.{All};
+ghost use Rattle.model.specs.Slots.{items_of};
+ghost use Rattle.waiting.specs.Requests.{Unfinished};
 
 use crate::request::WaitingRequest;
+use model::slots::Slots;
 
 mod table;
 
-// At most sixty-four requests, the earliest put first. The memory is fixed, since the board has no
-// heap: the requests are the first `len` slots.
+// The most requests that wait.
+const MOST_WAITING: usize = 64;
+
+// At most sixty-four requests, the earliest put first.
 #[derive(Drop)]
 pub(crate) struct Line {
-    slots: [WaitingRequest; 64],
-    len: usize,
-    ghost full: { length slots ≡ 64 },
-    ghost few: { len ≤ 64 },
-    ghost unfinished: { (k : ℕ) → k < len → 1 ≤ (slice_index_or slots k unused).left },
+    requests: Slots<WaitingRequest, MOST_WAITING>,
+    ghost unfinished: { All Unfinished (items_of requests) },
 }

@@ -1,6 +1,6 @@
 // Waiting orders by a rule: the line that all of them share, and the rule by which each picks.
 ghost use Rattle.std.specs.Prelude.{◌≡◌, [], OnErr};
-ghost use Rattle.waiting.specs.Laws.{few_wait, all_unfinished};
+ghost use Rattle.waiting.specs.Laws.{few_wait};
 ghost use Rattle.waiting.specs.Lines.{Put, Served};
 ghost use Rattle.waiting.specs.Orders.{waits};
 ghost use Rattle.waiting.specs.Requests.{fresh};
@@ -10,6 +10,7 @@ use crate::order::WaitingOrder;
 use crate::request::FinishedRequest;
 use crate::rule::{FirstCome, PickRule, ShortestLeft};
 use model::refusal::Refusal;
+use model::request::Request;
 
 // A waiting order that picks by the rule R. A new order costs a rule and nothing else.
 #[derive(Drop)]
@@ -44,16 +45,16 @@ impl<R: PickRule> WaitingOrder for OrderBy<R> {
 
     ghost few = { λ s. few_wait s.line };
 
-    ghost unfinished = { λ s. all_unfinished s.line };
+    ghost unfinished = { λ s. s.line.unfinished };
 
     ghost within = { λ s. R.PickRule.within s.rule (waits s) };
 
-    fn put(&mut self, number: u16, arrival: u32, ticks: u16) -> Result<(), Refusal>
-        ensures line { Put (waits self.old) (fresh number arrival ticks) result (waits self.new) }
+    fn put(&mut self, request: Request) -> Result<(), Refusal>
+        ensures line { Put (waits self.old) (fresh request) result (waits self.new) }
         ensures kept { OnErr result (R.picks self.new.rule (waits self.new) ≡ R.picks self.old.rule (waits self.old)) }
         ensures rule { self.new.rule ≡ self.old.rule }
     {
-        self.line.put(number, arrival, ticks)
+        self.line.put(request)
     }
 
     fn pick(&self) -> Option<usize>

@@ -33,7 +33,7 @@ impl PickRule for FirstCome {
         ensures place { result ≡ front line.now }
         ensures first { Front line.now result }
     {
-        if line.is_empty() { None } else { Some(0) }
+        line.first().map(|_| 0)
     }
 }
 
