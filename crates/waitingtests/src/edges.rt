@@ -1,6 +1,7 @@
 // Waiting orders at their edges, as tables of calls with the answers that are wanted.
 use crate::latest::LastCome;
 use model::refusal::Refusal;
+use model::request::Request;
 use std::alloc::Global;
 use std::process::Abort;
 use std::test::Fail;
@@ -14,14 +15,17 @@ fn exchange(call: Call, answer: Answer) -> Exchange {
     Exchange { call, answer }
 }
 
+fn request(number: u16, arrival: u32, ticks: u16) -> Request {
+    Request {
+        arrival,
+        number,
+        ticks,
+    }
+}
+
 // A put at the tick that is its number, and what is wanted of it.
 fn put(number: u16, ticks: u16, wanted: Result<(), Refusal>) -> Exchange {
-    let arrival = u32::from(number);
-    let call = Call::Put {
-        number,
-        arrival,
-        ticks,
-    };
+    let call = Call::Put(request(number, u32::from(number), ticks));
     exchange(call, Answer::Put(wanted))
 }
 
@@ -72,15 +76,10 @@ fn run<W: WaitingOrder>(
     order: &mut W,
     table: &[Exchange],
 ) -> Result<(), Fail> {
-    let mut calls = Vec::new(heap);
-    for wanted in table {
-        calls.push(exchange(wanted.call, Answer::Put(Ok(()))))?;
-    }
+    let unanswered = |wanted: &Exchange| exchange(wanted.call, Answer::Put(Ok(())));
+    let mut calls: Vec<Exchange> = table.iter().map(unanswered).collect(heap)?;
     make_calls(order, calls.as_mut_slice());
-    assert_eq!(rt; calls.len(), table.len());
-    for (made, wanted) in calls.iter().zip(table) {
-        assert_eq!(rt; made.answer, wanted.answer);
-    }
+    assert_eq!(rt; calls.as_slice(), table);
     Ok(())
 }
 
@@ -171,8 +170,8 @@ fn equal_numbers_wait_side_by_side(rt: HostRuntime) -> Result<(), Fail> {
 
 // Puts sixty-four requests of two ticks each.
 fn fill<W: WaitingOrder>(rt: &impl Abort, order: &mut W) {
-    for number in 0..64u16 {
-        assert_eq!(rt; order.put(number, 5, 2), Ok(()));
+    for number in 0..64 {
+        assert_eq!(rt; order.put(request(number, 5, 2)), Ok(()));
     }
 }
 
@@ -181,23 +180,26 @@ fn sixty_four_at_most<W: WaitingOrder>(rt: &impl Abort, order: &mut W) {
     fill(rt, order);
     assert_eq!(rt; order.pick(), Some(0));
     assert_eq!(rt; order.pick(), Some(0));
-    assert_eq!(rt; order.put(64, 5, 1), Err(Refusal::LineFull));
+    assert_eq!(rt; order.put(request(64, 5, 1)), Err(Refusal::LineFull));
     // tested before the room
-    assert_eq!(rt; order.put(64, 5, 0), Err(Refusal::RequestOutsideLimits));
     assert_eq!(rt;
-        order.put(64, 5, 60_001),
+        order.put(request(64, 5, 0)),
+        Err(Refusal::RequestOutsideLimits)
+    );
+    assert_eq!(rt;
+        order.put(request(64, 5, 60_001)),
         Err(Refusal::RequestOutsideLimits)
     );
     assert_eq!(rt; order.serve(6), None);
-    assert_eq!(rt; order.put(64, 6, 1), Err(Refusal::LineFull));
+    assert_eq!(rt; order.put(request(64, 6, 1)), Err(Refusal::LineFull));
     let finished = FinishedRequest {
         number: 0,
         arrival: 5,
         started: 6,
     };
     assert_eq!(rt; order.serve(7), Some(finished));
-    assert_eq!(rt; order.put(64, 7, 60_000), Ok(()));
-    assert_eq!(rt; order.put(65, 7, 1), Err(Refusal::LineFull));
+    assert_eq!(rt; order.put(request(64, 7, 60_000)), Ok(()));
+    assert_eq!(rt; order.put(request(65, 7, 1)), Err(Refusal::LineFull));
     // all that waits goes, and the order is as new
     order.clear();
     assert_eq!(rt; order.pick(), None);

@@ -1,6 +1,7 @@
 // A long random run of calls, beside a plain model of each order.
 use crate::latest::LastCome;
 use model::refusal::Refusal;
+use model::request::Request;
 use std::alloc::{AllocError, Global};
 use std::process::Abort;
 use std::test::Fail;
@@ -8,104 +9,73 @@ use waiting::calls::{Answer, Call, Exchange, make_calls};
 use waiting::order::WaitingOrder;
 use waiting::order_by::OrderBy;
 use waiting::request::{FinishedRequest, WaitingRequest};
-use waiting::rule::{FirstCome, PickRule, ShortestLeft};
+use waiting::rule::{FirstCome, ShortestLeft};
 
 // The calls of the run.
 const CALLS: u32 = 4_000;
 
-// The orders that the model imitates.
-#[derive(Clone, Copy)]
-enum Kind {
-    Arrival,
-    ShortestLeft,
-    Latest,
-}
-
-// A waiting order once more: a list that grows and shrinks, and no table of slots.
+// A waiting order once more: a list that grows and shrinks, with no table of slots.
 #[derive(Drop)]
-struct Model {
-    kind: Kind,
+struct Model<P> {
     line: Vec<WaitingRequest>,
+    // the place of the list that is served next
+    pick: P,
 }
 
-impl Model {
-    fn put(&mut self, number: u16, arrival: u32, ticks: u16) -> Result<Answer, AllocError> {
-        if ticks == 0 || ticks > 60_000 {
+impl<P: Fn(&[WaitingRequest]) -> Option<usize>> Model<P> {
+    fn put(&mut self, request: Request) -> Result<Answer, AllocError> {
+        if request.ticks == 0 || request.ticks > 60_000 {
             return Ok(Answer::Put(Err(Refusal::RequestOutsideLimits)));
         }
         if self.line.len() == 64 {
             return Ok(Answer::Put(Err(Refusal::LineFull)));
         }
         self.line.push(WaitingRequest {
-            number,
-            arrival,
+            number: request.number,
+            arrival: request.arrival,
             started: None,
-            left: ticks,
+            left: request.ticks,
         })?;
         Ok(Answer::Put(Ok(())))
     }
 
-    // The first place with the fewest ticks left: the least number first, and then where it stands.
-    fn shortest(&self) -> Option<usize> {
-        let mut fewest = u16::MAX;
-        for request in self.line.iter() {
-            fewest = fewest.min(request.left);
-        }
-        for (place, request) in self.line.iter().enumerate() {
-            if request.left == fewest {
-                return Some(place);
-            }
-        }
-        None
-    }
-
-    fn pick(&self) -> Option<usize> {
-        match self.kind {
-            Kind::Arrival if self.line.is_empty() => None,
-            Kind::Arrival => Some(0),
-            Kind::ShortestLeft => self.shortest(),
-            Kind::Latest => self.line.len().checked_sub(1),
-        }
-    }
-
-    fn serve(&mut self, tick: u32) -> Answer {
-        let place = self.pick();
-        let finished = match place {
-            Some(place) if place < self.line.len() => self.serve_at(place, tick),
-            _ => None,
-        };
+    fn serve(&mut self, tick: u32) -> Answer
+        requires { (pick : _) (line : _) → P.pre pick line }
+    {
+        let place = (self.pick)(self.line.as_slice());
+        let finished = place.and_then(|place| self.serve_at(place, tick));
         Answer::Serve { place, finished }
     }
 
     fn serve_at(&mut self, place: usize, tick: u32) -> Option<FinishedRequest> {
-        if place >= self.line.len() {
+        let request = self.line.get_mut(place)?;
+        let started = *request.started.get_or_insert(tick);
+        request.left = request.left.saturating_sub(1);
+        if request.left > 0 {
             return None;
         }
-        let mut request = self.line.remove(place);
-        let started = request.started.unwrap_or(tick);
-        request.started = Some(started);
-        request.left = request.left.saturating_sub(1);
-        if request.left == 0 {
-            return Some(FinishedRequest {
-                number: request.number,
-                arrival: request.arrival,
-                started,
-            });
-        }
-        let _ = self.line.insert(place, request);
-        None
+        let done = self.line.remove(place);
+        Some(FinishedRequest {
+            number: done.number,
+            arrival: done.arrival,
+            started,
+        })
     }
 
-    fn answer(&mut self, call: Call) -> Result<Answer, AllocError> {
+    fn answer(&mut self, call: Call) -> Result<Answer, AllocError>
+        requires { (pick : _) (line : _) → P.pre pick line }
+    {
         match call {
-            Call::Put {
-                number,
-                arrival,
-                ticks,
-            } => self.put(number, arrival, ticks),
+            Call::Put(request) => self.put(request),
             Call::Serve { tick } => Ok(self.serve(tick)),
         }
     }
+}
+
+// The first place with the fewest ticks left: the least number first, and then where it stands.
+fn shortest(line: &[WaitingRequest]) -> Option<usize> {
+    let fewest = line.iter().map(|request| request.left).min()?;
+    line.iter().position(|request| request.left == fewest)
 }
 
 // A linear congruential generator; its upper bits are the better ones.
@@ -138,89 +108,82 @@ fn call_at(tick: u32, chance: &mut Chance) -> Call {
         2 => 65_535,
         n => n % 2 + 1,
     };
-    Call::Put {
-        number: chance.below(100),
+    Call::Put(Request {
         arrival: tick,
+        number: chance.below(100),
         ticks,
-    }
+    })
 }
 
 fn calls(heap: Global) -> Result<Vec<Exchange>, AllocError> {
     let mut chance = Chance { state: 20_261_118 };
-    let mut run = Vec::new(heap);
-    for tick in 0..CALLS {
-        let call = call_at(tick, &mut chance);
-        run.push(Exchange {
-            call,
-            answer: Answer::Put(Ok(())),
-        })?;
-    }
-    Ok(run)
+    let unanswered = |tick| Exchange {
+        call: call_at(tick, &mut chance),
+        answer: Answer::Put(Ok(())),
+    };
+    (0..CALLS).map(unanswered).collect(heap)
 }
 
-// How often each kind of answer came.
-#[derive(Clone, Copy)]
-struct Seen {
-    full: u32,
-    outside: u32,
-    nobody: u32,
-    finished: u32,
+// How many of the answers pass the test.
+fn count<T: Fn(&Answer) -> bool>(run: &[Exchange], test: T) -> usize
+    requires { (test : _) (answer : _) → T.pre test answer }
+{
+    run.iter().filter(|exchange| test(&exchange.answer)).count()
 }
 
-impl Seen {
-    fn note(&mut self, answer: Answer) {
-        match answer {
-            Answer::Put(Err(Refusal::LineFull)) => self.full = self.full.saturating_add(1),
-            Answer::Put(Err(_)) => self.outside = self.outside.saturating_add(1),
-            Answer::Serve { place: None, .. } => self.nobody = self.nobody.saturating_add(1),
-            Answer::Serve {
-                finished: Some(_),
-                ..
-            } => self.finished = self.finished.saturating_add(1),
-            _ => {}
-        }
-    }
-}
-
-fn agrees<W: WaitingOrder>(
+fn agrees<W: WaitingOrder, P: Fn(&[WaitingRequest]) -> Option<usize>>(
     rt: &impl Abort,
     heap: Global,
     order: &mut W,
-    kind: Kind,
-) -> Result<(), Fail> {
+    pick: P,
+) -> Result<(), Fail>
+    requires { (pick : _) (line : _) → P.pre pick line }
+{
     let mut run = calls(heap)?;
     make_calls(order, run.as_mut_slice());
     let mut model = Model {
-        kind,
         line: Vec::new(heap),
-    };
-    let mut seen = Seen {
-        full: 0,
-        outside: 0,
-        nobody: 0,
-        finished: 0,
+        pick,
     };
     for exchange in run.iter() {
         assert_eq!(rt; exchange.answer, model.answer(exchange.call)?);
-        seen.note(exchange.answer);
     }
     // the run has come to every kind of answer often
-    assert!(rt; seen.full > 50, "sixty-four wait");
-    assert!(rt; seen.outside > 50, "ticks outside their limits");
-    assert!(rt; seen.nobody > 50, "nobody waits");
-    assert!(rt; seen.finished > 500, "a last tick");
+    let run = run.as_slice();
+    let full = count(run, |answer| *answer == Answer::Put(Err(Refusal::LineFull)));
+    let outside = count(
+        run,
+        |answer| *answer == Answer::Put(Err(Refusal::RequestOutsideLimits)),
+    );
+    let nobody = count(
+        run,
+        |answer| matches!(answer, Answer::Serve { place: None, .. }),
+    );
+    let finished = count(
+        run,
+        |answer| matches!(
+            answer,
+            Answer::Serve {
+                finished: Some(_),
+                ..
+            }
+        ),
+    );
+    assert!(rt; full > 50, "sixty-four wait");
+    assert!(rt; outside > 50, "ticks outside their limits");
+    assert!(rt; nobody > 50, "nobody waits");
+    assert!(rt; finished > 500, "a last tick");
     Ok(())
 }
 
 #[test]
 fn a_random_run(rt: HostRuntime) -> Result<(), Fail> {
     let heap = rt.alloc();
-    agrees(&rt, heap, &mut OrderBy::new(FirstCome), Kind::Arrival)?;
-    agrees(
-        &rt,
-        heap,
-        &mut OrderBy::new(ShortestLeft),
-        Kind::ShortestLeft,
-    )?;
-    agrees(&rt, heap, &mut OrderBy::new(LastCome), Kind::Latest)
+    agrees(&rt, heap, &mut OrderBy::new(FirstCome), |line| {
+        (!line.is_empty()).then_some(0)
+    })?;
+    agrees(&rt, heap, &mut OrderBy::new(ShortestLeft), shortest)?;
+    agrees(&rt, heap, &mut OrderBy::new(LastCome), |line| {
+        line.len().checked_sub(1)
+    })
 }
