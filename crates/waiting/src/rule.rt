@@ -50,15 +50,9 @@ impl PickRule for ShortestLeft {
         ensures place { result ≡ shortest line.now }
         ensures least { Shortest line.now result }
     {
-        if line.is_empty() {
-            return None;
-        }
-        let mut best = 0;
-        for place in 1..line.len() {
-            if line[place].left < line[best].left {
-                best = place;
-            }
-        }
-        Some(best)
+        line.iter()
+            .enumerate()
+            .min_by_key(|(_, request)| request.left)
+            .map(|(place, _)| place)
     }
 }

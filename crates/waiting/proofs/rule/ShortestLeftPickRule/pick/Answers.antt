@@ -1,20 +1,16 @@
-use Rattle.std.proofs.Common.{◌<◌, length, sym, ap, arith}
-use Rattle.std.proofs.lemmas.List.{nil_from_length}
-use Rattle.std.proofs.lemmas.Bool.{eqb-true, eqb-false}
-use Rattle.waiting.specs.Rules.{shortest}
-use Rattle.waiting.proofs.Picks.{least_all, shortest_some}
+use Rattle.std.proofs.Common.{◌≡◌, rules, tests, subst, sym}
+use Rattle.std.specs.Option.{option_map}
+use Rattle.std.proofs.lemmas.Iterator.{YieldsList-from_slice}
+use Rattle.std.proofs.lemmas.Iterator.Consumers.{YieldsList-from_enumerate}
+use Rattle.waiting.specs.Rules.{Shortest}
+use Rattle.waiting.proofs.Picks.{shortest_from, picks_shortest}
 use Rattle.waiting.proofs.rule.ShortestLeftPickRule.pick.Goals as goal
 
-pub returns-then-is_empty : goal.returns-then-is_empty
-returns-then-is_empty c =
+pub returns-clause-least : goal.returns-clause-least
+returns-clause-least c =
     let line = c.args.line.now in
-    let empty = nil_from_length line (eqb-true _ 0 (sym c.if-is_empty.ensures)) in
-    record { place = ap shortest (sym empty); least = empty }
+    let mapped : c.map.result ≡ option_map (λ p. p.0) c.min_by_key.result = search (rules, tests) in
+    subst (Shortest line) (sym mapped) (picks_shortest _ _ _ line c.min_by_key.result c.min_by_key.ensures.ran (YieldsList-from_enumerate (YieldsList-from_slice line cc) cc) (λ x n q k. search (rules, tests)))
 
-pub returns : goal.returns
-returns c =
-    let line = c.args.line.now in
-    let best = c.loop-place.best in
-    let some : 0 < length line = omega (arith, eqb-false _ 0 (sym c.if-is_empty.ensures)) in
-    let least = least_all line c.loop-place.place best (omega arith) c.loop-place.invariant in
-    record { place = shortest_some line best least; least = least }
+pub returns-clause-place : goal.returns-clause-place
+returns-clause-place c = search (rules, shortest_from, returns-clause-least c)
