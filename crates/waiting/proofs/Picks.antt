@@ -1,15 +1,15 @@
 -- The place that shortest-left order picks is the one that its words describe, and the only one.
-use Rattle.std.proofs.Common.{◌≡◌, ℕ, zero, suc, ◌+◌, ◌<◌, ◌≤◌, cond, Bool, true, false, ltb, ◌⊎◌, List, [], ◌∷◌, map, length, get_or, Some, None, Option, sym, refl, ap, ◌∙◌, subst, inl, inr, arith, Bor}
+use Rattle.std.proofs.Common.{◌≡◌, ℕ, zero, suc, ◌+◌, ◌<◌, ◌≤◌, cond, Bool, ltb, List, [], ◌∷◌, map, length, get_or, Some, None, Option, sym, refl, ap, ◌∙◌, subst, arith, Bor}
 use denote.Param.Members.{Mut}
 use Rattle.std.specs.Cmp.{IsStrictWeakOrder}
 use Rattle.std.specs.Fn.{CalledAt}
-use Rattle.std.specs.Iterator.{Drains, KeyTurn, PicksMinByKey}
+use Rattle.std.specs.Iterator.{KeyTurn, PicksMinByKey}
 use Rattle.std.specs.List.{FoldsTo, IsFirstBest, best_of, enumerate_from}
 use Rattle.std.specs.Option.{option_map}
 use Rattle.std.specs.Ordering.{nat_cmp, min_by_ordering}
 use Rattle.std.specs.declared.cmp.Ordering.{Ordering}
 use Rattle.std.specs.declared.cmp.Ordering.TheVariants.{Less, Equal, Greater}
-use Rattle.std.proofs.lemmas.Bool.{ltb-true, ltb-false, cases_order, cond_both, cond-true, cond-false}
+use Rattle.std.proofs.lemmas.Bool.{ltb-true, ltb-false, cond_both}
 use Rattle.std.proofs.lemmas.Bool.Decides.{nat_tests}
 use Rattle.std.proofs.lemmas.Cmp.{ranked}
 use Rattle.std.proofs.lemmas.Iterator.{YieldsList, items_from_drains}
@@ -20,11 +20,7 @@ use Rattle.waiting.specs.Requests.{unused}
 use Rattle.waiting.specs.Rules.{left_at, Least, Shortest, shorter, shortest}
 
 least_unique : (line : List WaitingRequest) (a b : ℕ) → Least line a → Least line b → a ≡ b
-least_unique line a b la lb = go (cases_order a b) where
-  go : (a ≡ b) ⊎ ((a < b) ⊎ (b < a)) → a ≡ b
-  go (inl e) = e
-  go (inr (inl h)) = absurd (omega (arith, lb.first a h, la.least b lb.within))
-  go (inr (inr h)) = absurd (omega (arith, la.first b h, lb.least a la.within))
+least_unique line a b la lb = grind (arith, la, lb)
 
 -- q alone, or before others who have no fewer ticks left.
 stays_first : (q : WaitingRequest) (line : List WaitingRequest) → ((k : ℕ) → k < length line → q.left ≤ left_at line k) → Least (q ∷ line) 0
@@ -98,20 +94,22 @@ least_numbered line best first others all is =
     let numbered : best.0 ≡ 0 + place = ap (λ p. p.0) (is ∙ sym chosen.2 ∙ ap (λ l. get_or l place first) all ∙ get_or-enumerate_from 0 line place first within) in
     let here : place ≡ best.0 = omega arith in
     subst (Least line) here (
-      record {
-        within = within;
-        least = λ k l. omega (arith, ltb-false _ _ (wins.1 k (0, unused) (omega arith)), at k l, at place within);
-        first = λ k l. omega (arith, ltb-true _ _ (wins.2 k (0, unused) l), at k (omega arith), at place within);
-      }
+    record {
+      within = within;
+      least = λ k l. omega (arith, ltb-false _ _ (wins.1 k (0, unused) (omega arith)), at k l, at place within);
+      first = λ k l. omega (arith, ltb-true _ _ (wins.2 k (0, unused) l), at k (omega arith), at place within);
+    }
     )
 
-module _ {S F : Type 0} {steps : S → Option (ℕ × Bor WaitingRequest) → S → Type 0} (g : Mut F (Bor (ℕ × Bor WaitingRequest) × Unit {0}) ℕ) (s : S) (f : F) (line : List WaitingRequest) where
-  pub picks_shortest : (r : Option (ℕ × Bor WaitingRequest)) → PicksMinByKey steps g nat_cmp s f r → YieldsList steps numbered s (enumerate_from 0 line) → ((x : ℕ × Bor WaitingRequest) (n : ℕ) (q : F) → CalledAt g f x n q → (q ≡ f) × (n ≡ x.1.now.left)) → Shortest line (option_map (λ p. p.0) r)
-  picks_shortest None d e calls = nobody line (items_from_drains [] (d.1.0, d.1.1, λ _. (d.0, d.1.2)) e) where
+module _ {S F : Type 0} {steps : S → Option (ℕ × Bor WaitingRequest) → S → Type 0} {g : Mut F (Bor (ℕ × Bor WaitingRequest) × Unit {0}) ℕ} {s : S} {f : F} (line : List WaitingRequest) where
+  pub picks_shortest : (r : Option (ℕ × Bor WaitingRequest)) (place : Option ℕ) → place ≡ option_map (λ p. p.0) r → PicksMinByKey steps g nat_cmp s f r → YieldsList steps numbered s (enumerate_from 0 line) → ((x : ℕ × Bor WaitingRequest) (n : ℕ) (q : F) → CalledAt g f x n q → (q ≡ f) × (n ≡ x.1.now.left)) → Shortest line place
+  picks_shortest None place is d e calls = subst (Shortest line) (sym is) (nobody line (items_from_drains [] (d.1.0, d.1.1, λ _. (d.0, d.1.2)) e)) where
     nobody : (line : List WaitingRequest) → map numbered [] ≡ enumerate_from 0 line → line ≡ []
     nobody [] h = refl
     nobody (q ∷ line) h = cc
-  picks_shortest (Some y) (x, xs, k, f', q, drains, called, folds) e calls =
-      let m = calls x k f' called in
-      let all : map numbered (x ∷ xs) ≡ enumerate_from 0 line = items_from_drains (x ∷ xs) (drains.1.0, drains.1.1, λ _. (drains.0, drains.1.2)) e in
-      least_numbered line (numbered y) (numbered x) (map numbered xs) all (least_folds numbered g (λ a. a.1.left) f calls xs ((f', k), x) (q, y) m.0 m.1 folds)
+  picks_shortest (Some y) place is (x, xs, k, f', q, d, called, folds) e calls =
+      let start = calls x k f' called in
+      let all : map numbered (x ∷ xs) ≡ enumerate_from 0 line = items_from_drains (x ∷ xs) (d.1.0, d.1.1, λ _. (d.0, d.1.2)) e in
+      subst (Shortest line) (sym is) (
+      least_numbered line (numbered y) (numbered x) (map numbered xs) all (least_folds numbered g (λ a. a.1.left) f calls xs ((f', k), x) (q, y) start.0 start.1 folds)
+      )
