@@ -9,7 +9,7 @@ use waiting::calls::{Answer, Call, Exchange, make_calls};
 use waiting::order::WaitingOrder;
 use waiting::order_by::OrderBy;
 use waiting::request::FinishedRequest;
-use waiting::rule::{FirstCome, PickRule, ShortestLeft};
+use waiting::rule::{FirstCome, ShortestLeft};
 
 fn exchange(call: Call, answer: Answer) -> Exchange {
     Exchange { call, answer }

@@ -124,13 +124,30 @@ fn calls(heap: Global) -> Result<Vec<Exchange>, AllocError> {
     (0..CALLS).map(unanswered).collect(heap)
 }
 
-// How many of the answers pass the test.
-fn count<T: Fn(&Answer) -> bool>(run: &[Exchange], test: T) -> usize
-    requires { (test : _) (answer : _) → T.pre test answer }
-{
-    run.iter().filter(|exchange| test(&exchange.answer)).count()
+// That the run has come to every kind of answer often.
+fn comes_to_every_kind(rt: &impl Abort, run: &[Exchange]) {
+    let times = |answer: Answer| run.iter().filter(|made| made.answer == answer).count();
+    let full = times(Answer::Put(Err(Refusal::LineFull)));
+    let outside = times(Answer::Put(Err(Refusal::RequestOutsideLimits)));
+    let nobody = times(Answer::Serve {
+        place: None,
+        finished: None,
+    });
+    let handed_back = |made: &&Exchange| matches!(
+        made.answer,
+        Answer::Serve {
+            finished: Some(_),
+            ..
+        }
+    );
+    let finished = run.iter().filter(handed_back).count();
+    assert!(rt; full > 50, "sixty-four wait");
+    assert!(rt; outside > 50, "ticks outside their limits");
+    assert!(rt; nobody > 50, "nobody waits");
+    assert!(rt; finished > 500, "a last tick");
 }
 
+// Makes the calls of the run, and compares each answer with that of a model which picks like this.
 fn agrees<W: WaitingOrder, P: Fn(&[WaitingRequest]) -> Option<usize>>(
     rt: &impl Abort,
     heap: Global,
@@ -148,31 +165,7 @@ fn agrees<W: WaitingOrder, P: Fn(&[WaitingRequest]) -> Option<usize>>(
     for exchange in run.iter() {
         assert_eq!(rt; exchange.answer, model.answer(exchange.call)?);
     }
-    // the run has come to every kind of answer often
-    let run = run.as_slice();
-    let full = count(run, |answer| *answer == Answer::Put(Err(Refusal::LineFull)));
-    let outside = count(
-        run,
-        |answer| *answer == Answer::Put(Err(Refusal::RequestOutsideLimits)),
-    );
-    let nobody = count(
-        run,
-        |answer| matches!(answer, Answer::Serve { place: None, .. }),
-    );
-    let finished = count(
-        run,
-        |answer| matches!(
-            answer,
-            Answer::Serve {
-                finished: Some(_),
-                ..
-            }
-        ),
-    );
-    assert!(rt; full > 50, "sixty-four wait");
-    assert!(rt; outside > 50, "ticks outside their limits");
-    assert!(rt; nobody > 50, "nobody waits");
-    assert!(rt; finished > 500, "a last tick");
+    comes_to_every_kind(rt, run.as_slice());
     Ok(())
 }
 
