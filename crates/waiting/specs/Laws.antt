@@ -2,7 +2,7 @@
 -- impls cite them; nothing is defined here.
 use Rattle.std.specs.Prelude.{ℕ, suc, ◌≤◌, List, [], ◌∷◌, length, Some, None, Option, nat_lt, refl}
 use Rattle.std.proofs.Common.{arith}
-use Rattle.std.proofs.lemmas.List.{length-take-le}
+use Rattle.std.proofs.lemmas.List.{length-take}
 use Rattle.std.proofs.lemmas.Bool.{cond_both}
 use Rattle.waiting.specs.declared.line.Line.{Line}
 use Rattle.waiting.specs.declared.request.WaitingRequest.{WaitingRequest}
@@ -10,7 +10,7 @@ use Rattle.waiting.specs.Lines.{requests_of, PickedFrom}
 use Rattle.waiting.specs.Rules.{left_at, front, shorter, shortest}
 
 pub few_wait : (l : Line) → length (requests_of l) ≤ 64
-few_wait l = omega (arith, length-take-le l.requests.len l.requests.slots (omega (arith, l.requests.full, l.requests.few)), l.requests.few)
+few_wait l = omega (arith, length-take l.requests.len l.requests.slots, l.requests.few)
 
 pub front_within : (line : List WaitingRequest) → PickedFrom line (front line)
 front_within [] = refl

@@ -28,7 +28,8 @@ pub type ShortestLeftOrder = OrderBy<ShortestLeft>;
 impl<R: PickRule> OrderBy<R> {
     // Nobody waits, and this rule will pick.
     pub fn new(rule: R) -> OrderBy<R>
-        ensures { (waits result ≡ []) × (result.rule ≡ rule) }
+        ensures nobody { waits result ≡ [] }
+        ensures rule { result.rule ≡ rule }
     {
         OrderBy {
             line: Line::new(),
