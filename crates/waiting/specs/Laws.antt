@@ -1,12 +1,13 @@
 -- That the line and the two rules keep what the traits ask of every value. These proofs stand here since the
 -- impls cite them; nothing is defined here.
-use Rattle.std.specs.Prelude.{◌≡◌, ℕ, suc, ◌≤◌, List, [], ◌∷◌, length, Some, None, Option, nat_lt, refl}
+use Rattle.std.specs.Prelude.{◌≡◌, ℕ, suc, ◌≤◌, List, [], ◌∷◌, length, Some, None, Option, nat_lt, refl, All}
 use Rattle.std.proofs.Common.{arith}
 use Rattle.std.proofs.lemmas.Bool.{cond_both}
 use Rattle.model.specs.Slots.{length-items_of}
 use Rattle.waiting.specs.declared.line.Line.{Line}
 use Rattle.waiting.specs.declared.request.WaitingRequest.{WaitingRequest}
 use Rattle.waiting.specs.Lines.{requests_of, PickedFrom}
+use Rattle.waiting.specs.Requests.{Unfinished}
 use Rattle.waiting.specs.Rules.{left_at, front, shorter, shortest}
 
 pub length-requests_of : (l : Line) → length (requests_of l) ≡ l.requests.len
@@ -14,6 +15,9 @@ length-requests_of l = length-items_of l.requests
 
 pub few_wait : (l : Line) → length (requests_of l) ≤ 64
 few_wait l = omega (arith, length-requests_of l, l.requests.few)
+
+pub all_unfinished : (l : Line) → All Unfinished (requests_of l)
+all_unfinished l = l.unfinished
 
 pub front_within : (line : List WaitingRequest) → PickedFrom line (front line)
 front_within [] = refl

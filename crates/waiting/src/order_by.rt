@@ -1,6 +1,6 @@
 // Waiting orders by a rule: the line that all of them share, and the rule by which each picks.
 ghost use Rattle.std.specs.Prelude.{◌≡◌, [], OnErr};
-ghost use Rattle.waiting.specs.Laws.{few_wait};
+ghost use Rattle.waiting.specs.Laws.{few_wait, all_unfinished};
 ghost use Rattle.waiting.specs.Lines.{Put, Served};
 ghost use Rattle.waiting.specs.Orders.{waits};
 ghost use Rattle.waiting.specs.Requests.{fresh};
@@ -46,7 +46,7 @@ impl<R: PickRule> WaitingOrder for OrderBy<R> {
 
     ghost few = { λ s. few_wait s.line };
 
-    ghost unfinished = { λ s. s.line.unfinished };
+    ghost unfinished = { λ s. all_unfinished s.line };
 
     ghost within = { λ s. R.PickRule.within s.rule (waits s) };
 
