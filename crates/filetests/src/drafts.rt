@@ -1,14 +1,20 @@
 // Rows and drafts at their limits.
 use model::draft::Draft;
-use model::refusal::Refusal;
-use model::row::Row;
+use model::row::{Row, Times};
 
-// The number of a refusal, 0 for none.
-fn number(added: Result<(), Refusal>) -> u8 {
-    match added {
-        Ok(()) => 0,
-        Err(refusal) => refusal.number(),
+fn times(cost: u16, deadline: u16, period: u16) -> Times {
+    Times {
+        cost,
+        deadline,
+        period,
     }
+}
+
+// Adds the row of these numbers; a refusal is answered by its number.
+fn add(draft: &mut Draft, cost: u16, deadline: u16, period: u16) -> Result<(), u8> {
+    draft
+        .add(times(cost, deadline, period))
+        .map_err(|refusal| refusal.number())
 }
 
 #[test]
@@ -26,21 +32,24 @@ fn rows_at_their_limits(rt: HostRuntime) {
         (65_535, 65_535, 65_535, false),
     ];
     for (cost, deadline, period, good) in table {
-        assert_eq!(rt; Row::new(cost, deadline, period).is_ok(), good);
+        assert_eq!(rt; Row::new(times(cost, deadline, period)).is_ok(), good);
     }
 }
 
 #[test]
 fn a_seventeenth_row_is_refused_before_its_limits(rt: HostRuntime) {
     let mut draft = Draft::new();
-    assert_eq!(rt; number(draft.add(2, 1, 4)), 1);
+    assert_eq!(rt; add(&mut draft, 2, 1, 4), Err(1));
     assert_eq!(rt; draft.rows().len(), 0);
     for n in 0..16u16 {
-        assert_eq!(rt; number(draft.add(1, 2, 100 + n)), 0);
-        assert_eq!(rt; number(draft.add(1, 2, 1)), if n < 15 { 1 } else { 2 });
+        assert_eq!(rt; add(&mut draft, 1, 2, 100 + n), Ok(()));
+        assert_eq!(rt;
+            add(&mut draft, 1, 2, 1),
+            if n < 15 { Err(1) } else { Err(2) }
+        );
     }
-    assert_eq!(rt; number(draft.add(1, 2, 2)), 2);
-    assert_eq!(rt; number(draft.add(0, 0, 0)), 2);
+    assert_eq!(rt; add(&mut draft, 1, 2, 2), Err(2));
+    assert_eq!(rt; add(&mut draft, 0, 0, 0), Err(2));
     assert_eq!(rt; draft.rows().len(), 16);
     for (n, row) in draft.rows().iter().enumerate() {
         assert_eq!(rt; row.period as usize, 100 + n);

@@ -1,7 +1,7 @@
 // Flight files: what is read, what is refused and where, and what is written.
 use flightfile::file::FlightFile;
 use flightfile::reading::ReadError;
-use flightfile::record::Request;
+use flightfile::record::{Record, Request, Times};
 use model::refusal::Refusal;
 use std::alloc::{AllocError, Global};
 use std::test::Fail;
@@ -10,33 +10,27 @@ static ROW: [u8; 7] = [0x52, 1, 0, 3, 0, 4, 0];
 
 static REQUEST: [u8; 9] = [0x51, 3, 0, 0, 0, 7, 0, 2, 0];
 
-// What a file says, in short, or its refusal's number and place.
+// How many rows and requests a file says, and its stop.
 #[derive(Clone, Copy, Debug, PartialEq)]
-enum Outcome {
-    Says {
-        rows: usize,
-        requests: usize,
-        stop: u32,
-    },
-    Refused {
-        number: u8,
-        place: usize,
-    },
-    NoMemory,
+struct Counts {
+    rows: usize,
+    requests: usize,
+    stop: u32,
 }
 
-fn answer(heap: Global, bytes: &[u8]) -> Outcome {
+// What a file says, in short, or its refusal's number and place.
+type Outcome = Result<Counts, (u8, usize)>;
+
+// The outcome of a file, if there was memory for it.
+fn answer(heap: Global, bytes: &[u8]) -> Result<Outcome, ReadError> {
     match FlightFile::read(Vec::new(heap), bytes) {
-        Ok(file) => Outcome::Says {
+        Ok(file) => Ok(Ok(Counts {
             rows: file.rows.rows().len(),
             requests: file.requests.len(),
             stop: file.stop,
-        },
-        Err(ReadError::Refused(refused)) => Outcome::Refused {
-            number: refused.refusal.number(),
-            place: refused.place,
-        },
-        Err(ReadError::NoMemory) => Outcome::NoMemory,
+        })),
+        Err(ReadError::Refused(refused)) => Ok(Err((refused.refusal.number(), refused.place))),
+        Err(no_memory) => Err(no_memory),
     }
 }
 
@@ -55,11 +49,11 @@ fn says(rows: usize, requests: usize, tail: &'static [u8], more: usize, stop: u3
         rows,
         requests,
         tail,
-        outcome: Outcome::Says {
+        outcome: Ok(Counts {
             rows,
             requests: all,
             stop,
-        },
+        }),
     }
 }
 
@@ -68,7 +62,7 @@ fn refused(rows: usize, requests: usize, tail: &'static [u8], number: u8, place:
         rows,
         requests,
         tail,
-        outcome: Outcome::Refused { number, place },
+        outcome: Err((number, place)),
     }
 }
 
@@ -163,7 +157,7 @@ fn each_refusal_at_its_edge(rt: HostRuntime) -> Result<(), Fail> {
     ];
     for case in table.iter() {
         let bytes = built(heap, case)?;
-        assert_eq!(rt; answer(heap, bytes.as_slice()), case.outcome);
+        assert_eq!(rt; answer(heap, bytes.as_slice())?, case.outcome);
     }
     Ok(())
 }
@@ -174,7 +168,7 @@ static EXAMPLE: [u8; 28] = [
 ];
 
 #[test]
-fn the_example_cut_at_every_byte(rt: HostRuntime) {
+fn the_example_cut_at_every_byte(rt: HostRuntime) -> Result<(), Fail> {
     let heap = rt.alloc();
     for cut in 0..28 {
         // where the record begins that the cut falls into
@@ -185,19 +179,15 @@ fn the_example_cut_at_every_byte(rt: HostRuntime) {
             _ => 23,
         };
         let number = if cut == place { 16 } else { 13 };
-        assert_eq!(rt;
-            answer(heap, &EXAMPLE[0..cut]),
-            Outcome::Refused { number, place }
-        );
+        assert_eq!(rt; answer(heap, &EXAMPLE[0..cut])?, Err((number, place)));
     }
-    assert_eq!(rt;
-        answer(heap, &EXAMPLE),
-        Outcome::Says {
-            rows: 2,
-            requests: 1,
-            stop: 12,
-        }
-    );
+    let whole = Counts {
+        rows: 2,
+        requests: 1,
+        stop: 12,
+    };
+    assert_eq!(rt; answer(heap, &EXAMPLE)?, Ok(whole));
+    Ok(())
 }
 
 #[test]
@@ -232,5 +222,29 @@ fn a_file_is_listed_line_by_line(rt: HostRuntime) -> Result<(), Fail> {
     );
     let text = listing::report(rt.alloc(), &EXAMPLE[0..27])?;
     assert_eq!(rt; text.as_str(), "refused,13,23\n");
+    Ok(())
+}
+
+#[test]
+fn records_are_printed_with_their_largest_numbers(rt: HostRuntime) -> Result<(), Fail> {
+    let request = Request {
+        arrival: u32::MAX,
+        number: u16::MAX,
+        ticks: 0,
+    };
+    let row = Record::Row(Times {
+        cost: 0,
+        deadline: u16::MAX,
+        period: 1,
+    });
+    let text = format!(in rt.alloc();
+        "{row} {} {}",
+        Record::Request(request),
+        Record::Stop(u32::MAX)
+    )?;
+    assert_eq!(rt;
+        text.as_str(),
+        "row,0,65535,1 request,4294967295,65535,0 stop,4294967295"
+    );
     Ok(())
 }

@@ -1,83 +1,59 @@
--- The bytes of many records in turn: one more, how many at most, and how many in all.
-use Rattle.std.proofs.Common.{◌≡◌, ℕ, ◌+◌, ◌*◌, ◌<◌, ◌≤◌, List, [], ◌∷◌, ◌++◌, map, length, get_or, take, drop, Some, Ok, Err, vec_items, Result, sym, refl, ap, ◌∙◌, arith, length-append, take-append-drop}
-use Rattle.std.proofs.lemmas.List.{map-append, map_more, take_at}
+-- The bytes of many records in turn: their parts and how many there are.
+use Rattle.std.proofs.Common.{append-nil, ◌≡◌, ℕ, ◌+◌, ◌*◌, ◌≤◌, List, [], ◌∷◌, ◌++◌, length, take, Ok, Err, vec_items, Result, vec_len, map, sym, refl, ap, ◌∙◌, arith, length-append}
+use Rattle.std.proofs.lemmas.List.{length-map, take_at}
+use Rattle.std.proofs.lemmas.List.Concat.{flat_map-append}
+use Rattle.std.proofs.lemmas.List.Folds.{flat_map-map}
 use Rattle.std.specs.List.{flat_map}
 use Rattle.std.specs.Option.{option_to_list}
 use Rattle.model.specs.Drafts.{rows_of}
 use Rattle.model.specs.declared.refusal.Refusal.{Refusal}
+use Rattle.model.specs.declared.request.Request.{Request}
 use Rattle.model.specs.declared.row.Row.{Row}
-use Rattle.model.specs.declared.row.Times.{Times}
 use Rattle.model.specs.Rows.{times_of}
 use Rattle.flightfile.specs.declared.file.FlightFile.{FlightFile}
 use Rattle.flightfile.specs.declared.record.Record.{Record}
-use Rattle.model.specs.declared.request.Request.{Request}
 use Rattle.flightfile.specs.Answers.{Says}
-use Rattle.flightfile.specs.Contents.{Content, content, bytes}
+use Rattle.flightfile.specs.Contents.{Content, records, bytes}
 use Rattle.flightfile.specs.Reading.{content_of}
 use Rattle.flightfile.specs.Records.{encode}
 use Rattle.flightfile.specs.Writing.{Written, WrittenBack}
-use Rattle.flightfile.proofs.Joined.{flat_map-append, flat_map-push, map-map}
 
-abbrev pub encode_all : {X : Type 0} → (X → Record) → List X → List ℕ
-encode_all f xs = flat_map encode (map f xs)
+-- What a function gives of all the records of a content, by the rows, the requests and the stop.
+module _ (g : Record → List ℕ) where
+  parts : (c : Content) → flat_map g (records c) ≡ flat_map (λ t. g (Record.Row t)) c.rows ++ (flat_map (λ q. g (Record.Request q)) c.requests ++ flat_map (λ n. g (Record.Stop n)) (option_to_list c.stop))
+  parts c = simp (flat_map-append, flat_map-map)
 
-module _ {X : Type 0} (f : X → Record) where
-  encode_more : (xs : List X) (i : ℕ) (d : X) → i < length xs → encode_all f (take (i + 1) xs) ≡ encode_all f (take i xs) ++ encode (f (get_or xs i d))
-  encode_more xs i d h = ap (flat_map encode) (map_more f xs i d h) ∙ flat_map-push encode (map f (take i xs)) (f (get_or xs i d))
+  pub file_parts : (f : FlightFile) (rs : List Row) (qs : List Request) → map times_of rs ≡ rows_of f.rows → qs ≡ vec_items f.requests → flat_map g (records (content_of f)) ≡ flat_map (λ r. g (Record.Row (times_of r))) rs ++ (flat_map (λ q. g (Record.Request q)) qs ++ g (Record.Stop f.stop))
+  file_parts f rs qs same asked = rw (← same, asked) (simp (flat_map-append, flat_map-map, append-nil))
 
-  -- The step of a loop over xs that has come to x, whose record is r.
-  pub encode_next : (xs : List X) (i : ℕ) (x : X) (r : Record) → i < length xs → x ≡ get_or xs i x → r ≡ f x → encode_all f (take (i + 1) xs) ≡ encode_all f (take i xs) ++ encode r
-  encode_next xs i x r h is e = encode_more xs i x h ∙ ap (λ y. encode_all f (take i xs) ++ encode y) (ap f (sym is) ∙ sym e)
+-- Values of k bytes each.
+even : {X : Type 0} (f : X → List ℕ) (k : ℕ) → ((x : X) → length (f x) ≡ k) → (xs : List X) → length (flat_map f xs) ≡ k * length xs
+even f k h [] = omega arith
+even f k h (x ∷ xs) = grind (arith, h x, length-append (f x) (flat_map f xs), even f k h xs)
 
-  encode_parts : (xs ys : List X) → encode_all f (xs ++ ys) ≡ encode_all f xs ++ encode_all f ys
-  encode_parts xs ys = ap (flat_map encode) (map-append f xs ys) ∙ flat_map-append encode (map f xs) (map f ys)
-
-  pub encode_front : (n : ℕ) (xs : List X) → length (encode_all f (take n xs)) ≤ length (encode_all f xs)
-  encode_front n xs =
-      omega (arith, ap (λ l. length (encode_all f l)) (take-append-drop n xs), ap length (encode_parts (take n xs) (drop n xs)), length-append (encode_all f (take n xs)) (encode_all f (drop n xs)))
-
-rows_long : (ts : List Times) → length (encode_all Record.Row ts) ≡ 7 * length ts
-rows_long [] = refl
-rows_long (t ∷ ts) = omega (arith, rows_long ts)
-
-requests_long : (qs : List Request) → length (encode_all Record.Request qs) ≡ 9 * length qs
-requests_long [] = refl
-requests_long (q ∷ qs) = omega (arith, requests_long qs)
+bytes_long : (c : Content) → length (bytes c) ≡ 7 * length c.rows + (9 * length c.requests + 5 * length (option_to_list c.stop))
+bytes_long c =
+    omega (arith, ap length (parts encode c), length-append {A = ℕ}, even (λ t. encode (Record.Row t)) 7 (λ t. refl) c.rows, even (λ q. encode (Record.Request q)) 9 (λ q. refl) c.requests, even (λ n. encode (Record.Stop n)) 5 (λ n. refl) (option_to_list c.stop))
 
 -- The requests of a content are a part of its bytes.
 pub requests_fit : (c : Content) → 9 * length c.requests ≤ length (bytes c)
-requests_fit c =
-    let rows : List Record = map Record.Row c.rows in
-    let asked : List Record = map Record.Request c.requests in
-    let stop : List Record = map Record.Stop (option_to_list c.stop) in
-    omega (arith, requests_long c.requests, ap length (flat_map-append encode rows (asked ++ stop)), length-append (flat_map encode rows) (flat_map encode (asked ++ stop)), ap length (flat_map-append encode asked stop), length-append (flat_map encode asked) (flat_map encode stop))
+requests_fit c = omega (arith, bytes_long c)
 
--- The bytes of a whole content: its rows', its requests' and its stop's.
-pub bytes_parts : (ts : List Times) (qs : List Request) (n : ℕ) → bytes (content ts qs (Some n)) ≡ encode_all Record.Row ts ++ (encode_all Record.Request qs ++ encode (Record.Stop n))
-bytes_parts ts qs n = flat_map-append encode (map Record.Row ts) _ ∙ ap (λ l. encode_all Record.Row ts ++ l) (flat_map-append encode (map Record.Request qs) _)
+-- A flight file whose rows are rs has as many bytes as these, which is no more than a file may have.
+pub file_long : (f : FlightFile) (rs : List Row) (n : ℕ) → map times_of rs ≡ rows_of f.rows → n ≡ vec_len f.requests → (length (bytes (content_of f)) ≡ 7 * length rs + 9 * n + 5) × (7 * length rs + 9 * n + 5 ≤ 65536)
+file_long f rs n same many =
+    let long : length (bytes (content_of f)) ≡ 7 * length rs + 9 * n + 5 =
+    omega (arith, bytes_long (content_of f), f.requests.ok.0, many, length-map rs times_of, ap length same) in
+    (long, omega (arith, long, f.short))
 
-pub bytes_long : (ts : List Times) (qs : List Request) (n : ℕ) → length (bytes (content ts qs (Some n))) ≡ 7 * length ts + 9 * length qs + 5
-bytes_long ts qs n =
-    omega (arith, ap length (bytes_parts ts qs n), length-append (encode_all Record.Row ts) (encode_all Record.Request qs ++ encode (Record.Stop n)), length-append (encode_all Record.Request qs) (encode (Record.Stop n)), rows_long ts, requests_long qs)
-
--- The bytes of a flight file as its rows, its requests and its stop are written.
-module _ (f : FlightFile) (rs : List Row) (same : map times_of rs ≡ rows_of f.rows) where
-  pub file_parts : (qs : List Request) → qs ≡ vec_items f.requests → bytes (content_of f) ≡ encode_all (λ r. Record.Row (times_of r)) rs ++ (encode_all Record.Request qs ++ encode (Record.Stop f.stop))
-  file_parts qs e =
-      bytes_parts (rows_of f.rows) (vec_items f.requests) f.stop
-      ∙ ap (λ l. l ++ (encode_all Record.Request (vec_items f.requests) ++ encode (Record.Stop f.stop))) (ap (encode_all Record.Row) (sym same) ∙ ap (flat_map encode) (map-map Record.Row times_of rs))
-      ∙ ap (λ l. encode_all (λ r. Record.Row (times_of r)) rs ++ (encode_all Record.Request l ++ encode (Record.Stop f.stop))) (sym e)
-
-  pub file_long : (qs : List Request) → qs ≡ vec_items f.requests → length (encode_all (λ r. Record.Row (times_of r)) rs) + length (encode_all Record.Request qs) + 5 ≡ length (bytes (content_of f))
-  file_long qs e =
-      let a : List ℕ = encode_all (λ r. Record.Row (times_of r)) rs in
-      let b : List ℕ = encode_all Record.Request qs in
-      omega (arith, ap length (file_parts qs e), length-append a (b ++ encode (Record.Stop f.stop)), length-append b (encode (Record.Stop f.stop)))
+-- Its rows, its requests and its stop have as many bytes as all of it.
+pub parts_long : (f : FlightFile) (rs : List Row) (qs : List Request) → map times_of rs ≡ rows_of f.rows → qs ≡ vec_items f.requests → length (flat_map (λ r. encode (Record.Row (times_of r))) rs) + length (flat_map (λ q. encode (Record.Request q)) qs) + 5 ≡ length (bytes (content_of f))
+parts_long f rs qs same asked = omega (arith, ap length (file_parts encode f rs qs same asked), length-append {A = ℕ})
 
 -- What was written of the content of a file is that file.
 pub written_back : (c : Content) (old : List ℕ) (r : Result ℕ Refusal) (new : List ℕ) → Written (bytes c) old r new → WrittenBack c r new
 written_back c old (Ok n) new w file s = (w.1 ∙ ap length (sym s.3), ap (take n) w.2 ∙ take_at (bytes c) _ n (sym w.1) ∙ sym s.3)
 written_back c old (Err e) new w file s = tt
 
-pub file_says : (f : FlightFile) → ∥ Says (bytes (content_of f)) (content_of f) ∥₁
-file_says f = ∣ (f.short, f.lawful, (f.stop, refl), refl) ∣₁
+pub file_says : (f : FlightFile) → Says (bytes (content_of f)) (content_of f)
+file_says f = (f.short, f.lawful, (f.stop, refl), refl)

@@ -1,7 +1,6 @@
 pub mod AllRecords
 pub mod FirstRecord
-pub mod Joined
 pub mod OneAnswer
 pub mod OneMore
-pub mod Overwrites
+pub mod Outputs
 pub mod Steps

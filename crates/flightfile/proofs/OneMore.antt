@@ -2,7 +2,7 @@
 use Rattle.std.proofs.Common.{◌≡◌, ℕ, ◌<◌, ◌≤◌, ◌⊎◌, List, [], ◌∷◌, ◌++◌, map, length, Some, None, Option, sym, refl, ap, ◌∙◌, inl, inr, append_assoc, append-nil, arith}
 use Rattle.std.proofs.ByRecursion.{All-push}
 use Rattle.std.proofs.Math.Decide.{dec_le, map_dec}
-use Rattle.std.proofs.lemmas.List.{length_push, map_push}
+use Rattle.std.proofs.lemmas.List.{length_push, map_push, flat_map_more}
 use Rattle.std.proofs.lemmas.Bool.{cases_lt}
 use Rattle.std.specs.List.{flat_map}
 use Rattle.std.specs.Option.{option_to_list}
@@ -16,7 +16,6 @@ use Rattle.flightfile.specs.Answers.{last_arrival, InPlace, Unfit, Unlawful}
 use Rattle.flightfile.specs.Contents.{Content, records, bytes, TicksInLimits, RequestLawful, NotFalling, StopInRange, Lawful}
 use Rattle.flightfile.specs.Records.{encode, Encodable}
 use Rattle.flightfile.specs.Progress.{Fit, Allowed, extend}
-use Rattle.flightfile.proofs.Joined.{flat_map-push}
 
 records-extend : (c : Content) (x : Record) → InPlace c x → records (extend c x) ≡ records c ++ x ∷ []
 records-extend c (Record.Row t) p =
@@ -42,7 +41,7 @@ records-extend c (Record.Stop n) p =
     ∙ sym (append_assoc rows (asked ++ map Record.Stop (option_to_list c.stop)) (Record.Stop n ∷ []))
 
 pub bytes-extend : (c : Content) (x : Record) → InPlace c x → bytes (extend c x) ≡ bytes c ++ encode x
-bytes-extend c x p = ap (flat_map encode) (records-extend c x p) ∙ flat_map-push encode (records c) x
+bytes-extend c x p = ap (flat_map encode) (records-extend c x p) ∙ sym (flat_map_more encode [] (records c) x)
 
 not_falling_push : (a : ℕ) (qs : List Request) (q : Request) → NotFalling a qs → last_arrival a qs ≤ q.arrival → NotFalling a (qs ++ q ∷ [])
 not_falling_push a [] q h l = (l, tt)

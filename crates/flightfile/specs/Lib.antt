@@ -4,4 +4,5 @@ pub mod Phases
 pub mod Progress
 pub mod Reading
 pub mod Records
+pub mod Texts
 pub mod Writing

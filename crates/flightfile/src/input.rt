@@ -1,21 +1,24 @@
 // Taking a flight file in from outside.
-ghost use Rattle.std.specs.Prelude.{◌≤◌, length, IfOk};
+ghost use Rattle.std.specs.Prelude.{◌<◌, ◌≤◌, length, take, IfOk};
+ghost use Rattle.std.specs.Io.KnownBytes.{Consumes, IsAtEnd};
 
 use std::io;
 use std::io::Read;
 
-// Reads until the input ends or the buffer is full, and answers how many bytes came. A buffer of one
-// byte more than the longest file is enough to refuse any longer one.
+// Reads until the input ends or the buffer is full, and answers how many bytes came: they stand at the
+// buffer's front, and what lies behind them is left open. A buffer of one byte more than the longest
+// file is enough to refuse any longer one.
 pub fn fill<R: Read>(input: &mut R, buffer: &mut [u8]) -> io::Result<usize>
-    ensures { IfOk result (λ n. n ≤ length buffer.new) }
+    ensures within { IfOk result (λ n. n ≤ length buffer.new) }
+    ensures bytes { IfOk result (λ n. Consumes (R.remaining input.old) (R.remaining input.new) (take n buffer.new)) }
+    ensures end { IfOk result (λ n. n < length buffer.new → IsAtEnd (R.remaining input.new)) }
 {
     let mut size = 0;
     while size < buffer.len() {
-        let more = input.read(&mut buffer[size..])?;
-        if more == 0 {
-            break;
+        match input.read(&mut buffer[size..])? {
+            0 => return Ok(size),
+            more => size += more,
         }
-        size += more;
     }
     Ok(size)
 }

@@ -1,10 +1,12 @@
 // The records of a flight file: a kind byte and a body whose length the kind fixes.
-ghost use Rattle.std.specs.Prelude.{◌<◌, length};
+ghost use Rattle.std.specs.Prelude.{◌<◌, length, Some};
 ghost use Rattle.flightfile.specs.Records.{Split, KindRead};
+ghost use Rattle.flightfile.specs.Texts.{record_text};
 
 use model::refusal::Refusal;
 pub use model::request::Request;
 pub use model::row::Times;
+use std::fmt;
 
 // The kinds of record. Each is its kind byte, a letter.
 #[derive(Clone, Copy, Debug, PartialEq, Eq)]
@@ -76,6 +78,31 @@ impl Record {
                 rest,
             )),
             _ => Err(Refusal::EndInsideRecord),
+        }
+    }
+}
+
+// As the product lists it: row,1,3,4 or request,3,7,2 or stop,12.
+impl fmt::Display for Record {
+    ghost output = { λ x. Some (record_text x) };
+
+    fn fmt<W: fmt::Write>(&self, f: &mut fmt::Formatter<W>) -> fmt::Result {
+        match *self {
+            Record::Row(
+                Times {
+                    cost,
+                    deadline,
+                    period,
+                },
+            ) => write!(f, "row,{cost},{deadline},{period}"),
+            Record::Request(
+                Request {
+                    arrival,
+                    number,
+                    ticks,
+                },
+            ) => write!(f, "request,{arrival},{number},{ticks}"),
+            Record::Stop(ticks) => write!(f, "stop,{ticks}"),
         }
     }
 }

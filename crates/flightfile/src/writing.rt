@@ -6,7 +6,7 @@ ghost use Rattle.flightfile.specs.declared.record.Record.{Record as Meaning};
 ghost use Rattle.flightfile.specs.declared.record.Record.TheVariants.{Request as asked, Row as to_row};
 ghost use Rattle.flightfile.specs.Reading.{content_of};
 ghost use Rattle.flightfile.specs.Records.{encode};
-ghost use Rattle.flightfile.specs.Writing.{overwrite, Written, WrittenBack};
+ghost use Rattle.flightfile.specs.Writing.{Fits, Puts, Written, WrittenBack};
 ghost use Rattle.model.specs.Rows.{times_of};
 ghost use Rattle.std.specs.List.{flat_map};
 
@@ -47,89 +47,80 @@ impl ToRecord for Request {
     }
 }
 
-// Copies the bytes into `out` from `at` on, and answers where they end.
-fn put_bytes(out: &mut [u8], at: usize, from: &[u8]) -> usize
-    requires { at + length from.now ≤ length out.old }
-    ensures wrote { out.new ≡ overwrite out.old at from.now }
-    ensures end { result ≡ at + length from.now }
-{
-    let end = at + from.len();
-    out[at..end].copy_from_slice(from);
-    end
+// A buffer that is written from its front on: what stands before `at` has been written.
+#[derive(Drop)]
+struct Output<'a> {
+    buffer: &'a mut [u8],
+    at: usize,
 }
 
-impl Record {
-    // Writes the record's bytes into `out` from `at` on, and answers where they end.
-    fn put(self, out: &mut [u8], at: usize) -> usize
-        requires { at + length (encode self) ≤ length out.old }
-        ensures wrote { out.new ≡ overwrite out.old at (encode self) }
-        ensures end { result ≡ at + length (encode self) }
+impl Output<'_> {
+    fn put_bytes(&mut self, bytes: &[u8])
+        requires { Fits self.old bytes.now }
+        ensures { Puts self.old bytes.now self.new }
     {
-        match self {
+        let end = self.at + bytes.len();
+        self.buffer[self.at..end].copy_from_slice(bytes);
+        self.at = end;
+    }
+
+    fn put(&mut self, entry: Record)
+        requires { Fits self.old (encode entry) }
+        ensures { Puts self.old (encode entry) self.new }
+    {
+        match entry {
             Record::Row(times) => {
                 let [c0, c1] = times.cost.to_le_bytes();
                 let [d0, d1] = times.deadline.to_le_bytes();
                 let [t0, t1] = times.period.to_le_bytes();
-                put_bytes(out, at, &[Kind::Row as u8, c0, c1, d0, d1, t0, t1])
+                self.put_bytes(&[Kind::Row as u8, c0, c1, d0, d1, t0, t1]);
             }
             Record::Request(request) => {
                 let [a0, a1, a2, a3] = request.arrival.to_le_bytes();
                 let [n0, n1] = request.number.to_le_bytes();
                 let [t0, t1] = request.ticks.to_le_bytes();
-                put_bytes(
-                    out,
-                    at,
-                    &[Kind::Request as u8, a0, a1, a2, a3, n0, n1, t0, t1],
-                )
+                self.put_bytes(&[Kind::Request as u8, a0, a1, a2, a3, n0, n1, t0, t1]);
             }
             Record::Stop(ticks) => {
                 let [s0, s1, s2, s3] = ticks.to_le_bytes();
-                put_bytes(out, at, &[Kind::Stop as u8, s0, s1, s2, s3])
+                self.put_bytes(&[Kind::Stop as u8, s0, s1, s2, s3]);
             }
+        }
+    }
+
+    // Writes the records of all these.
+    fn put_all<T: ToRecord>(&mut self, items: &[T])
+        requires { Fits self.old (flat_map (λ item. encode (T.meaning item)) items.now) }
+        ensures { Puts self.old (flat_map (λ item. encode (T.meaning item)) items.now) self.new }
+    {
+        for item in items {
+            self.put(item.to_record());
         }
     }
 }
 
-// Writes the records of all these into `out` from `at` on, and answers where they end.
-fn put_all<T: ToRecord>(out: &mut [u8], at: usize, items: &[T]) -> usize
-    requires { at + length (flat_map encode (map T.meaning items.now)) ≤ length out.old }
-    ensures wrote { out.new ≡ overwrite out.old at (flat_map encode (map T.meaning items.now)) }
-    ensures end { result ≡ at + length (flat_map encode (map T.meaning items.now)) }
-{
-    let mut end = at;
-    for item in items {
-        end = item.to_record().put(out, end);
-    }
-    end
-}
-
-// The bytes of a file with so many rows and requests and a stop.
-fn bytes_of(rows: usize, requests: usize) -> usize
-    requires { 7 * rows + 9 * requests + 5 ≤ 65536 }
-    ensures { result ≡ 7 * rows + 9 * requests + 5 }
-{
-    ROW_BYTES * rows + REQUEST_BYTES * requests + STOP_BYTES
-}
-
 impl FlightFile {
     // How many bytes the file has.
+    #[tactic(auto, using(crate::proofs::AllRecords::file_long))]
     pub fn byte_len(&self) -> usize
         ensures { result ≡ length (bytes (content_of self.now)) }
     {
-        bytes_of(self.rows.rows().len(), self.requests.len())
+        ROW_BYTES * self.rows.rows().len() + REQUEST_BYTES * self.requests.len() + STOP_BYTES
     }
 
     // Writes the file into the front of `out`, and answers how many bytes it has; or refuses with 17.
     pub fn write(&self, out: &mut [u8]) -> Result<usize, Refusal>
         ensures wrote { Written (bytes (content_of self.now)) out.old result out.new }
         ensures back { WrittenBack (content_of self.now) result out.new }
-        ensures readable { ∥ Says (bytes (content_of self.now)) (content_of self.now) ∥₁ }
+        ensures readable { Says (bytes (content_of self.now)) (content_of self.now) }
     {
         if out.len() < self.byte_len() {
             return Err(Refusal::OutputTooShort);
         }
-        let rows_end = put_all(out, 0, self.rows.rows());
-        let requests_end = put_all(out, rows_end, self.requests.as_slice());
-        Ok(Record::Stop(self.stop).put(out, requests_end))
+        let mut output = Output { buffer: out, at: 0 };
+        output.put_all(self.rows.rows());
+        output.put_all(self.requests.as_slice());
+        output.put(Record::Stop(self.stop));
+        Ok(output.at)
     }
 }

@@ -1,2 +1,1 @@
-pub mod JoinedLines
 pub mod Rewritten

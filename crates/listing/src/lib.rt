@@ -1,10 +1,10 @@
 // The listing of a flight file: the text that the program `inspect` prints.
 #![tactic(auto)]
 
-ghost use Rattle.std.specs.Prelude.{◌≡◌, ◌++◌, map, IfOk, if◌then◌else◌, string_bytes, codes, Decides, OnOk};
+ghost use Rattle.std.specs.Prelude.{◌≡◌, ◌↔◌, ◌++◌, IfOk, IsTrue, OnOk, Some, string_bytes};
 ghost use Rattle.flightfile.specs.Contents.{bytes};
 ghost use Rattle.flightfile.specs.Reading.{content_of};
-ghost use Rattle.listing.specs.Lines.{record_line, record_lines, summary_line, refused_line, Reported};
+ghost use Rattle.listing.specs.Lines.{record_line, record_lines, summary_text, found_word, refused_line, Reported};
 ghost use Rattle.std.specs.List.{flat_map};
 
 use flightfile::file::FlightFile;
@@ -15,32 +15,35 @@ use model::refusal::PlacedRefusal;
 use std::alloc::{AllocError, Global};
 use std::{fmt, io};
 
-// Adds the line of a record.
-fn push_line(text: &mut String, entry: Record) -> Result<(), AllocError>
-    ensures { OnOk result (string_bytes text.new ≡ string_bytes text.old ++ record_line entry) }
-{
-    match entry {
-        Record::Row {
-            cost,
-            deadline,
-            period,
-        } => writeln!(text, "row,{cost},{deadline},{period}"),
-        Record::Request(request) => {
-            let arrival = request.arrival;
-            let number = request.number;
-            let ticks = request.ticks;
-            writeln!(text, "request,{arrival},{number},{ticks}")
-        }
-        Record::Stop(ticks) => writeln!(text, "stop,{ticks}"),
+// What the last line of a listing says of the file: its bytes, its rows and requests, and whether it was
+// the same when it was written back.
+#[derive(Clone, Copy)]
+struct Summary {
+    size: usize,
+    rows: usize,
+    requests: usize,
+    same: bool,
+}
+
+impl fmt::Display for Summary {
+    ghost output = { λ s. Some (summary_text s.size s.rows s.requests (found_word s.same)) };
+
+    fn fmt<W: fmt::Write>(&self, f: &mut fmt::Formatter<W>) -> fmt::Result {
+        let found = if self.same { "same" } else { "differs" };
+        write!(
+            f,
+            "read,{},{},{},{found}",
+            self.size, self.rows, self.requests
+        )
     }
 }
 
 // Adds the lines of all these.
 fn push_lines<T: ToRecord>(text: &mut String, items: &[T]) -> Result<(), AllocError>
-    ensures { OnOk result (string_bytes text.new ≡ string_bytes text.old ++ flat_map record_line (map T.meaning items.now)) }
+    ensures { OnOk result (string_bytes text.new ≡ string_bytes text.old ++ flat_map (λ item. record_line (T.meaning item)) items.now) }
 {
     for item in items {
-        push_line(text, item.to_record())?;
+        writeln!(text, "{}", item.to_record())?;
     }
     Ok(())
 }
@@ -52,48 +55,27 @@ pub fn list(heap: Global, file: &FlightFile) -> Result<String, fmt::Error>
     let mut text = String::new(heap);
     push_lines(&mut text, file.rows.rows())?;
     push_lines(&mut text, file.requests.as_slice())?;
-    push_line(&mut text, Record::Stop(file.stop))?;
+    writeln!(text, "{}", Record::Stop(file.stop))?;
     Ok(text)
 }
 
 // Whether the file, written, has just these bytes.
 fn is_written_as(heap: Global, file: &FlightFile, input: &[u8]) -> Result<bool, AllocError>
-    ensures { IfOk result (λ b. Decides b (bytes (content_of file.now) ≡ input.now)) }
+    ensures { IfOk result (λ same. IsTrue same ↔ (bytes (content_of file.now) ≡ input.now)) }
 {
-    let mut out = vec![in heap; 0u8; input.len()]?;
-    match file.write(out.as_mut_slice()) {
-        Ok(n) => Ok(n == input.len() && out.as_slice() == input),
+    let mut buffer = vec![in heap; 0u8; input.len()]?;
+    let out = buffer.as_mut_slice();
+    match file.write(out) {
+        Ok(n) => Ok(&out[..n] == input),
         Err(_) => Ok(false),
     }
-}
-
-// How a file was found when it was written back.
-fn found_word(same: bool) -> &'static str
-    ensures { result.now ≡ (if same then codes "same" else codes "differs") }
-{
-    if same { "same" } else { "differs" }
-}
-
-// Adds the last line of the listing.
-fn push_summary(
-    text: &mut String,
-    size: usize,
-    rows: usize,
-    requests: usize,
-    found: &str,
-) -> Result<(), AllocError>
-    ensures { OnOk result (string_bytes text.new ≡ string_bytes text.old ++ summary_line size rows requests found.now) }
-{
-    writeln!(text, "read,{size},{rows},{requests},{found}")
 }
 
 // The line of a refusal.
 pub fn refusal_line(heap: Global, refused: PlacedRefusal) -> Result<String, AllocError>
     ensures { IfOk result (λ s. string_bytes s ≡ refused_line refused.refusal refused.place) }
 {
-    let number = refused.refusal.number();
-    let place = refused.place;
-    format!(in heap; "refused,{number},{place}\n")
+    format!(in heap; "{refused}\n")
 }
 
 // What `inspect` prints of a file.
@@ -106,9 +88,12 @@ pub fn report(heap: Global, input: &[u8]) -> io::Result<String>
         Err(ReadError::NoMemory) => return Err(AllocError.into()),
     };
     let mut text = list(heap, &file)?;
-    let found = found_word(is_written_as(heap, &file, input)?);
-    let rows = file.rows.rows().len();
-    let requests = file.requests.len();
-    push_summary(&mut text, input.len(), rows, requests, found)?;
+    let summary = Summary {
+        size: input.len(),
+        rows: file.rows.rows().len(),
+        requests: file.requests.len(),
+        same: is_written_as(heap, &file, input)?,
+    };
+    writeln!(text, "{summary}")?;
     Ok(text)
 }
