@@ -40,7 +40,8 @@ impl fmt::Display for Summary {
 
 // Adds the lines of all these.
 fn push_lines<T: ToRecord>(text: &mut String, items: &[T]) -> Result<(), AllocError>
-    ensures { OnOk result (string_bytes text.new ≡ string_bytes text.old ++ flat_map (λ item. record_line (T.meaning item)) items.now) }
+    ensures { OnOk result (string_bytes text.new ≡ string_bytes text.old
+        ++ flat_map (λ item. record_line (T.meaning item)) items.now) }
 {
     for item in items {
         writeln!(text, "{}", item.to_record())?;
