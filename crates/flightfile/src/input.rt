@@ -17,6 +17,8 @@ pub fn fill<R: Read>(input: &mut R, buffer: &mut [u8]) -> io::Result<usize>
     ensures none_lost { OnErr result ((n : ℕ) × Consumes (R.remaining input.old) (R.remaining input.new)
         (take n buffer.new)) }
 {
+    // counted by hand: with `rest = &mut rest[more..]` the proof of `bytes` did not close, since a loop's
+    // invariant cannot name what `rest` has given up, and std promises less of `io::copy` and `read_to_end`
     let mut size = 0;
     while size < buffer.len() {
         match input.read(&mut buffer[size..])? {

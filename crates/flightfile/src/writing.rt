@@ -22,7 +22,8 @@ const REQUEST_BYTES: usize = 9;
 
 const STOP_BYTES: usize = 5;
 
-// What has a record of its own in a flight file.
+// What has a record of its own in a flight file. It is no `From`, whose law relates two values: the
+// contracts over many of these name the record that a value has.
 pub trait ToRecord {
     // the record
     ghost meaning: { Self → Meaning };
@@ -93,6 +94,7 @@ impl Output<'_> {
         requires { Fits self.old (flat_map (λ item. encode (T.meaning item)) items.now) }
         ensures { Puts self.old (flat_map (λ item. encode (T.meaning item)) items.now) self.new }
     {
+        // a loop: of what a closure changes in `self` a proof would know nothing
         for item in items {
             self.put(item.to_record());
         }

@@ -43,6 +43,7 @@ fn push_lines<T: ToRecord>(text: &mut String, items: &[T]) -> Result<(), AllocEr
     ensures { OnOk result (string_bytes text.new ≡ string_bytes text.old
         ++ flat_map (λ item. record_line (T.meaning item)) items.now) }
 {
+    // a loop: of what a closure changes in `text` a proof would know nothing
     for item in items {
         writeln!(text, "{}", item.to_record())?;
     }

@@ -44,7 +44,8 @@ pub enum Refusal {
 }
 
 impl Refusal {
-    // The number by which the product's users know the refusal, 1 to 17.
+    // The number by which the product's users know the refusal, 1 to 17. No `From` for `u8`: the match
+    // would be the same, and `u8::from(refusal)` would not say of what it is the number.
     pub fn number(&self) -> u8
         ensures { result ≡ number_of self.now }
     {

@@ -7,7 +7,8 @@ use crate::request::FinishedRequest;
 use model::refusal::Refusal;
 use model::request::Request;
 
-// A call that changes who waits.
+// A call that changes who waits. It is data and no closure, since the theorems on transcripts speak of
+// any list of calls.
 #[derive(Clone, Copy, Debug, PartialEq, Eq)]
 pub enum Call {
     Put(Request),

@@ -38,7 +38,8 @@ impl<R: PickRule> OrderBy<R> {
     }
 }
 
-// Each call does what the trait says, and the rule stays.
+// Each call does what the trait says, and the rule stays. Each clause says so, since an invariant cannot
+// speak of the value before.
 impl<R: PickRule> WaitingOrder for OrderBy<R> {
     ghost waiting = { waits };
 
