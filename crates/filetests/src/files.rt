@@ -43,27 +43,27 @@ struct Case {
     outcome: Outcome,
 }
 
-fn says(rows: usize, requests: usize, tail: &'static [u8], more: usize, stop: u32) -> Case {
-    let all = requests.saturating_add(more);
+fn with_outcome(rows: usize, requests: usize, tail: &'static [u8], outcome: Outcome) -> Case {
     Case {
         rows,
         requests,
         tail,
-        outcome: Ok(Counts {
-            rows,
-            requests: all,
-            stop,
-        }),
+        outcome,
     }
 }
 
-fn refused(rows: usize, requests: usize, tail: &'static [u8], number: u8, place: usize) -> Case {
-    Case {
+// A file whose tail has so many requests more.
+fn says(rows: usize, requests: usize, tail: &'static [u8], more: usize, stop: u32) -> Case {
+    let counts = Counts {
         rows,
-        requests,
-        tail,
-        outcome: Err((number, place)),
-    }
+        requests: requests.saturating_add(more),
+        stop,
+    };
+    with_outcome(rows, requests, tail, Ok(counts))
+}
+
+fn refused(rows: usize, requests: usize, tail: &'static [u8], number: u8, place: usize) -> Case {
+    with_outcome(rows, requests, tail, Err((number, place)))
 }
 
 fn built(heap: Global, case: &Case) -> Result<Vec<u8>, AllocError> {
