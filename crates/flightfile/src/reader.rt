@@ -61,7 +61,8 @@ impl Reader {
             (Phase::Requests { last }, Record::Request(request)) => self.admit_request(
                 last, request, place,
             ),
-            // twice, since the check has no rule for one arm over two phases that reads `ticks`
+            // twice: the check has no rule for one arm over both phases that reads `ticks`, whether the
+            // phases stand in it as `A | B` or as `_` behind an arm for the third
             (Phase::Rows, Record::Stop(ticks)) => self.admit_stop(ticks, place),
             (Phase::Requests { .. }, Record::Stop(ticks)) => self.admit_stop(ticks, place),
             _ => Err(Refusal::RecordOutOfPlace.at(place).into()),

@@ -5,7 +5,8 @@ use std::alloc::AllocError;
 
 mod table;
 
-// A list of at most N values: those in the first `len` slots, in order.
+// A list of at most N values: those in the first `len` slots, in order. Clauses see it by `items_of` and not
+// by a `Model`, which a type that is `Copy` can have only if the list gave all slots back.
 pub struct Slots<T, const N: usize> {
     slots: [T; N],
     len: usize,
