@@ -21,6 +21,3 @@ returns c =
     let puts = puts_more _ _ _ _ _ c.put_all.ensures (puts_more _ _ _ _ _ c.put_all-2.ensures c.put.ensures) in
     let wrote = written_by _ _ _ _ _ puts parts (search rules) refl (omega arith) in
     record { wrote = wrote; back = written_back (content_of f) c.args.out.now (Ok c.put.new.self.at) _ wrote; readable = file_says f }
-
-pub returns-then-out-byte_len-clause-readable : goal.returns-then-out-byte_len-clause-readable
-returns-then-out-byte_len-clause-readable c = file_says c.args.self.now
