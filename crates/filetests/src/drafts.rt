@@ -11,10 +11,8 @@ fn times(cost: u16, deadline: u16, period: u16) -> Times {
 }
 
 // Adds the row of these numbers; a refusal is answered by its number.
-fn add(draft: &mut Draft, cost: u16, deadline: u16, period: u16) -> Result<(), u8> {
-    draft
-        .add(times(cost, deadline, period))
-        .map_err(|refusal| refusal.number())
+fn add(draft: &mut Draft, times: Times) -> Result<(), u8> {
+    draft.add(times).map_err(|refusal| refusal.number())
 }
 
 #[test]
@@ -39,17 +37,17 @@ fn rows_at_their_limits(rt: HostRuntime) {
 #[test]
 fn a_seventeenth_row_is_refused_before_its_limits(rt: HostRuntime) {
     let mut draft = Draft::new();
-    assert_eq!(rt; add(&mut draft, 2, 1, 4), Err(1));
+    assert_eq!(rt; add(&mut draft, times(2, 1, 4)), Err(1));
     assert_eq!(rt; draft.rows().len(), 0);
     for n in 0..16u16 {
-        assert_eq!(rt; add(&mut draft, 1, 2, 100 + n), Ok(()));
+        assert_eq!(rt; add(&mut draft, times(1, 2, 100 + n)), Ok(()));
         assert_eq!(rt;
-            add(&mut draft, 1, 2, 1),
+            add(&mut draft, times(1, 2, 1)),
             if n < 15 { Err(1) } else { Err(2) }
         );
     }
-    assert_eq!(rt; add(&mut draft, 1, 2, 2), Err(2));
-    assert_eq!(rt; add(&mut draft, 0, 0, 0), Err(2));
+    assert_eq!(rt; add(&mut draft, times(1, 2, 2)), Err(2));
+    assert_eq!(rt; add(&mut draft, times(0, 0, 0)), Err(2));
     assert_eq!(rt; draft.rows().len(), 16);
     for (n, row) in draft.rows().iter().enumerate() {
         assert_eq!(rt; row.period as usize, 100 + n);

@@ -36,46 +36,59 @@ fn answer(heap: Global, bytes: &[u8]) -> Result<Outcome, ReadError> {
 
 // A file of so many good rows, so many good requests, which arrive together, and then these bytes.
 #[derive(Clone, Copy)]
-struct Case {
+struct Parts {
     rows: usize,
     requests: usize,
     tail: &'static [u8],
+}
+
+// A file, and what is wanted of it.
+#[derive(Clone, Copy)]
+struct Case {
+    parts: Parts,
     outcome: Outcome,
 }
 
-fn with_outcome(rows: usize, requests: usize, tail: &'static [u8], outcome: Outcome) -> Case {
-    Case {
+fn file(rows: usize, requests: usize, tail: &'static [u8]) -> Parts {
+    Parts {
         rows,
         requests,
         tail,
-        outcome,
     }
 }
 
-// A file whose tail has so many requests more.
-fn says(rows: usize, requests: usize, tail: &'static [u8], more: usize, stop: u32) -> Case {
-    let counts = Counts {
-        rows,
-        requests: requests.saturating_add(more),
-        stop,
-    };
-    with_outcome(rows, requests, tail, Ok(counts))
-}
-
-fn refused(rows: usize, requests: usize, tail: &'static [u8], number: u8, place: usize) -> Case {
-    with_outcome(rows, requests, tail, Err((number, place)))
-}
-
-fn built(heap: Global, case: &Case) -> Result<Vec<u8>, AllocError> {
-    let mut bytes = Vec::new(heap);
-    for _ in 0..case.rows {
-        bytes.extend_from_slice(&ROW)?;
+impl Parts {
+    // It says what the parts do, with so many requests more in its last bytes.
+    fn says(self, more: usize, stop: u32) -> Case {
+        let counts = Counts {
+            rows: self.rows,
+            requests: self.requests.saturating_add(more),
+            stop,
+        };
+        Case {
+            parts: self,
+            outcome: Ok(counts),
+        }
     }
-    for _ in 0..case.requests {
-        bytes.extend_from_slice(&REQUEST)?;
+
+    fn refused(self, number: u8, place: usize) -> Case {
+        Case {
+            parts: self,
+            outcome: Err((number, place)),
+        }
     }
-    bytes.extend_from_slice(case.tail)?;
-    Ok(bytes)
+
+    fn bytes(&self, heap: Global) -> Result<Vec<u8>, AllocError> {
+        let mut bytes = Vec::new(heap);
+        for _ in 0..self.rows {
+            bytes.extend_from_slice(&ROW)?;
+        }
+        for _ in 0..self.requests {
+            bytes.extend_from_slice(&REQUEST)?;
+        }
+        bytes.extend_from_slice(self.tail)?;
+        Ok(bytes)
+    }
 }
 
 #[test]
@@ -83,80 +96,60 @@ fn each_refusal_at_its_edge(rt: HostRuntime) -> Result<(), Fail> {
     let heap = rt.alloc();
     let table = [
         // the least file, and the example
-        says(0, 0, &[0x53, 12, 0, 0, 0], 0, 12),
-        says(2, 1, &[0x53, 12, 0, 0, 0], 0, 12),
+        file(0, 0, &[0x53, 12, 0, 0, 0]).says(0, 12),
+        file(2, 1, &[0x53, 12, 0, 0, 0]).says(0, 12),
         // 1 and 2: rows
-        says(16, 0, &[0x53, 12, 0, 0, 0], 0, 12),
-        refused(16, 0, &[0x52, 1, 0, 3, 0, 4, 0, 0x53, 12, 0, 0, 0], 2, 112),
-        refused(16, 0, &[0x52, 0, 0, 0, 0, 0, 0, 0x53, 12, 0, 0, 0], 2, 112),
-        refused(15, 0, &[0x52, 2, 0, 1, 0, 4, 0, 0x53, 12, 0, 0, 0], 1, 105),
-        refused(0, 0, &[0x52, 1, 0, 1, 0, 0x61, 0xea], 1, 0),
+        file(16, 0, &[0x53, 12, 0, 0, 0]).says(0, 12),
+        file(16, 0, &[0x52, 1, 0, 3, 0, 4, 0, 0x53, 12, 0, 0, 0]).refused(2, 112),
+        file(16, 0, &[0x52, 0, 0, 0, 0, 0, 0, 0x53, 12, 0, 0, 0]).refused(2, 112),
+        file(15, 0, &[0x52, 2, 0, 1, 0, 4, 0, 0x53, 12, 0, 0, 0]).refused(1, 105),
+        file(0, 0, &[0x52, 1, 0, 1, 0, 0x61, 0xea]).refused(1, 0),
         // 8: stops
-        refused(1, 1, &[0x53, 0, 0, 0, 0], 8, 16),
-        says(1, 1, &[0x53, 1, 0, 0, 0], 0, 1),
-        says(1, 1, &[0x53, 0x00, 0x94, 0x35, 0x77], 0, 2_000_000_000),
-        refused(1, 1, &[0x53, 0x01, 0x94, 0x35, 0x77], 8, 16),
+        file(1, 1, &[0x53, 0, 0, 0, 0]).refused(8, 16),
+        file(1, 1, &[0x53, 1, 0, 0, 0]).says(0, 1),
+        file(1, 1, &[0x53, 0x00, 0x94, 0x35, 0x77]).says(0, 2_000_000_000),
+        file(1, 1, &[0x53, 0x01, 0x94, 0x35, 0x77]).refused(8, 16),
         // 10: requests of 0, 1, 60,000 and 60,001 ticks
-        refused(
-            1,
-            0,
-            &[0x51, 3, 0, 0, 0, 7, 0, 0, 0, 0x53, 12, 0, 0, 0],
-            10,
-            7,
-        ),
-        says(
-            1,
-            0,
-            &[0x51, 3, 0, 0, 0, 7, 0, 1, 0, 0x53, 12, 0, 0, 0],
-            1,
-            12,
-        ),
-        says(
+        file(1, 0, &[0x51, 3, 0, 0, 0, 7, 0, 0, 0, 0x53, 12, 0, 0, 0]).refused(10, 7),
+        file(1, 0, &[0x51, 3, 0, 0, 0, 7, 0, 1, 0, 0x53, 12, 0, 0, 0]).says(1, 12),
+        file(
             0,
             1,
             &[0x51, 3, 0, 0, 0, 7, 0, 0x60, 0xea, 0x53, 12, 0, 0, 0],
-            1,
-            12,
-        ),
-        refused(0, 1, &[0x51, 3, 0, 0, 0, 7, 0, 0x61, 0xea], 10, 9),
+        )
+        .says(1, 12),
+        file(0, 1, &[0x51, 3, 0, 0, 0, 7, 0, 0x61, 0xea]).refused(10, 9),
         // 12: the longest file, and one byte more
-        says(8, 7275, &[0x53, 12, 0, 0, 0], 0, 12),
-        refused(8, 7275, &[0x53, 12, 0, 0, 0, 0], 12, 0),
+        file(8, 7275, &[0x53, 12, 0, 0, 0]).says(0, 12),
+        file(8, 7275, &[0x53, 12, 0, 0, 0, 0]).refused(12, 0),
         // 14: no kind, tested before everything
-        refused(1, 1, &[0x50], 14, 16),
-        refused(1, 1, &[0x54, 12, 0, 0, 0], 14, 16),
-        refused(1, 1, &[0x53, 12, 0, 0, 0, 0], 14, 21),
+        file(1, 1, &[0x50]).refused(14, 16),
+        file(1, 1, &[0x54, 12, 0, 0, 0]).refused(14, 16),
+        file(1, 1, &[0x53, 12, 0, 0, 0, 0]).refused(14, 21),
         // 15: out of place, tested before the record's own refusals; equal and rising arrivals are in place
-        says(
+        file(
             0,
             2,
             &[
                 0x51, 0xff, 0xff, 0xff, 0xff, 0xff, 0xff, 2, 0, 0x53, 12, 0, 0, 0,
             ],
-            1,
-            12,
-        ),
-        refused(1, 1, &[0x52, 1, 0, 3, 0, 4, 0, 0x53, 12, 0, 0, 0], 15, 16),
-        refused(16, 1, &[0x52, 0, 0, 0, 0, 0, 0], 15, 121),
-        refused(1, 1, &[0x51, 2, 0, 0, 0, 7, 0, 0, 0], 15, 16),
-        refused(1, 1, &[0x53, 12, 0, 0, 0, 0x53, 0, 0, 0, 0], 15, 21),
-        refused(
-            0,
-            0,
-            &[0x53, 12, 0, 0, 0, 0x51, 3, 0, 0, 0, 7, 0, 2, 0],
-            15,
-            5,
-        ),
-        refused(0, 0, &[0x53, 12, 0, 0, 0, 0x52, 1, 0, 3, 0, 4, 0], 15, 5),
+        )
+        .says(1, 12),
+        file(1, 1, &[0x52, 1, 0, 3, 0, 4, 0, 0x53, 12, 0, 0, 0]).refused(15, 16),
+        file(16, 1, &[0x52, 0, 0, 0, 0, 0, 0]).refused(15, 121),
+        file(1, 1, &[0x51, 2, 0, 0, 0, 7, 0, 0, 0]).refused(15, 16),
+        file(1, 1, &[0x53, 12, 0, 0, 0, 0x53, 0, 0, 0, 0]).refused(15, 21),
+        file(0, 0, &[0x53, 12, 0, 0, 0, 0x51, 3, 0, 0, 0, 7, 0, 2, 0]).refused(15, 5),
+        file(0, 0, &[0x53, 12, 0, 0, 0, 0x52, 1, 0, 3, 0, 4, 0]).refused(15, 5),
         // 13: the end inside a record, tested before the place
-        refused(1, 1, &[0x52, 1, 0, 3, 0, 4], 13, 16),
-        refused(0, 0, &[0x53, 12, 0, 0, 0, 0x53, 12, 0, 0], 13, 5),
+        file(1, 1, &[0x52, 1, 0, 3, 0, 4]).refused(13, 16),
+        file(0, 0, &[0x53, 12, 0, 0, 0, 0x53, 12, 0, 0]).refused(13, 5),
         // 16: no stop
-        refused(0, 0, &[], 16, 0),
-        refused(16, 1, &[], 16, 121),
+        file(0, 0, &[]).refused(16, 0),
+        file(16, 1, &[]).refused(16, 121),
     ];
     for case in table.iter() {
-        let bytes = built(heap, case)?;
+        let bytes = case.parts.bytes(heap)?;
         assert_eq!(rt; answer(heap, bytes.as_slice())?, case.outcome);
     }
     Ok(())

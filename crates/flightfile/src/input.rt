@@ -18,7 +18,8 @@ pub fn fill<R: Read>(input: &mut R, buffer: &mut [u8]) -> io::Result<usize>
         (take n buffer.new)) }
 {
     // counted by hand: with `rest = &mut rest[more..]` the proof of `bytes` did not close, since a loop's
-    // invariant cannot name what `rest` has given up, and std promises less of `io::copy` and `read_to_end`
+    // invariant cannot name what `rest` has given up; `io::copy` promises no bytes of such a reader, and
+    // `read_to_end` may ask for more memory than the caller wants to spend on the input
     let mut size = 0;
     while size < buffer.len() {
         match input.read(&mut buffer[size..])? {

@@ -61,8 +61,8 @@ impl Reader {
             (Phase::Requests { last }, Record::Request(request)) => self.admit_request(
                 last, request, place,
             ),
-            // twice: the check has no rule for one arm over both phases that reads `ticks`, whether the
-            // phases stand in it as `A | B` or as `_` behind an arm for the third
+            // twice: the project wants phase and kind matched together, and the check has no rule for one
+            // arm over both phases that reads `ticks`, written as `A | B` or as `_` behind the third's arm
             (Phase::Rows, Record::Stop(ticks)) => self.admit_stop(ticks, place),
             (Phase::Requests { .. }, Record::Stop(ticks)) => self.admit_stop(ticks, place),
             _ => Err(Refusal::RecordOutOfPlace.at(place).into()),

@@ -10,7 +10,7 @@ use std::fmt;
 
 // The kinds of record. Each is its kind byte, a letter.
 #[derive(Clone, Copy, Debug, PartialEq, Eq)]
-pub enum Kind {
+pub(crate) enum Kind {
     Row = b'R' as isize,
     Request = b'Q' as isize,
     Stop = b'S' as isize,
@@ -40,7 +40,8 @@ pub enum Record {
 }
 
 impl Record {
-    // Takes the first record off the bytes, and answers it with the rest.
+    // Takes the first record off the bytes, and answers it with the rest. The project wants the bytes named
+    // in a pattern, and a `TryFrom` has no rest to answer.
     pub(crate) fn split(bytes: &[u8]) -> Result<(Record, &[u8]), Refusal>
         requires { 0 < length bytes.now }
         ensures { Split bytes.now result }

@@ -48,7 +48,8 @@ impl ToRecord for Request {
     }
 }
 
-// A buffer that is written from its front on: what stands before `at` has been written.
+// A buffer that is written from its front on: what stands before `at` has been written. It is no `Write`,
+// since std says of a slice how many bytes were written to it and not which.
 #[derive(Drop)]
 struct Output<'a> {
     buffer: &'a mut [u8],

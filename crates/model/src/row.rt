@@ -12,7 +12,8 @@ pub struct Times {
 }
 
 // A periodic task, in ticks: each of its jobs takes `cost` ticks and is due `deadline` ticks after
-// its release, and a job is released every `period` ticks. No value breaks the limits.
+// its release, and a job is released every `period` ticks. No value breaks the limits, so it is a type of
+// its own beside `Times`, with the fields that a scheduler reads.
 #[derive(Clone, Copy, Debug, PartialEq, Eq)]
 pub struct Row {
     pub cost: u16,

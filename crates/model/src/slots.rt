@@ -1,4 +1,5 @@
-// Slots: a list in fixed memory, since the board has no heap.
+// Slots: a list in fixed memory, since the board has no heap. The kit's `ArrayVec` is none of it: it is not
+// `Copy`, as a draft is, and writes a blank wherever a value goes.
 ghost use Rattle.std.specs.Prelude.{◌≡◌, ◌≤◌, length, ⊤};
 
 use std::alloc::AllocError;

@@ -41,7 +41,7 @@ impl WaitingRequest {
     };
 
     // The request after this tick was given to it.
-    pub(crate) fn given(self, tick: u32) -> WaitingRequest
+    pub(crate) fn after_tick(self, tick: u32) -> WaitingRequest
         requires { 1 ≤ self.left }
         ensures { result ≡ given tick self }
     {
@@ -53,7 +53,7 @@ impl WaitingRequest {
     }
 
     // What is handed back of the request if this tick was its last.
-    pub(crate) fn finished_by(self, tick: u32) -> FinishedRequest
+    pub(crate) fn hand_back(self, tick: u32) -> FinishedRequest
         ensures { result ≡ finished_by tick self }
     {
         FinishedRequest {

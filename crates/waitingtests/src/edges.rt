@@ -37,22 +37,18 @@ fn refused(ticks: u16) -> Exchange {
     put(1, ticks, Err(Refusal::RequestOutsideLimits))
 }
 
+fn serve(tick: u32, place: Option<usize>, finished: Option<FinishedRequest>) -> Exchange {
+    exchange(Call::Serve { tick }, Answer::Serve { place, finished })
+}
+
 // A serve that finds nobody.
 fn idle(tick: u32) -> Exchange {
-    let answer = Answer::Serve {
-        place: None,
-        finished: None,
-    };
-    exchange(Call::Serve { tick }, answer)
+    serve(tick, None, None)
 }
 
 // A serve at this place that is not the request's last.
 fn served(tick: u32, place: usize) -> Exchange {
-    let answer = Answer::Serve {
-        place: Some(place),
-        finished: None,
-    };
-    exchange(Call::Serve { tick }, answer)
+    serve(tick, Some(place), None)
 }
 
 // A serve at this place after which the request of this number, first served at `started`, is handed back.
@@ -62,11 +58,7 @@ fn last(tick: u32, place: usize, number: u16, started: u32) -> Exchange {
         arrival: u32::from(number),
         started,
     };
-    let answer = Answer::Serve {
-        place: Some(place),
-        finished: Some(finished),
-    };
-    exchange(Call::Serve { tick }, answer)
+    serve(tick, Some(place), Some(finished))
 }
 
 // Makes the table's calls, and compares each answer with the one that is wanted.

@@ -30,6 +30,7 @@ impl<P: Fn(&[WaitingRequest]) -> Option<usize>> Model<P> {
         if self.line.len() == 64 {
             return Ok(Answer::Put(Err(Refusal::LineFull)));
         }
+        // field by field: the model uses nothing of the code under test
         self.line.push(WaitingRequest {
             number: request.number,
             arrival: request.arrival,

@@ -43,11 +43,11 @@ impl Line {
     {
         let request = self.requests()[place];
         if request.left > 1 {
-            self.requests.replace(place, request.given(tick));
+            self.requests.replace(place, request.after_tick(tick));
             None
         } else {
             self.requests.remove(place);
-            Some(request.finished_by(tick))
+            Some(request.hand_back(tick))
         }
     }
 
