@@ -49,7 +49,8 @@ impl Reader {
         }
     }
 
-    // Takes in the record at `place`, if it may stand here and its numbers are within their limits.
+    // Takes in the record at `place`, if it may stand here and its numbers are within their limits. The place
+    // goes along, since an error without it would be `ReadError` once more.
     pub(crate) fn admit(&mut self, found: Record, place: usize) -> Result<(), ReadError>
         ensures { Admitted self.old found place result self.new }
     {
