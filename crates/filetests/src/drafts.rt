@@ -2,7 +2,7 @@
 use model::draft::Draft;
 use model::row::{Row, Times};
 
-fn times(cost: u16, deadline: u16, period: u16) -> Times {
+fn numbers(cost: u16, deadline: u16, period: u16) -> Times {
     Times {
         cost,
         deadline,
@@ -30,24 +30,24 @@ fn rows_at_their_limits(rt: HostRuntime) {
         (65_535, 65_535, 65_535, false),
     ];
     for (cost, deadline, period, good) in table {
-        assert_eq!(rt; Row::new(times(cost, deadline, period)).is_ok(), good);
+        assert_eq!(rt; Row::new(numbers(cost, deadline, period)).is_ok(), good);
     }
 }
 
 #[test]
 fn a_seventeenth_row_is_refused_before_its_limits(rt: HostRuntime) {
     let mut draft = Draft::new();
-    assert_eq!(rt; add(&mut draft, times(2, 1, 4)), Err(1));
+    assert_eq!(rt; add(&mut draft, numbers(2, 1, 4)), Err(1));
     assert_eq!(rt; draft.rows().len(), 0);
     for n in 0..16u16 {
-        assert_eq!(rt; add(&mut draft, times(1, 2, 100 + n)), Ok(()));
+        assert_eq!(rt; add(&mut draft, numbers(1, 2, 100 + n)), Ok(()));
         assert_eq!(rt;
-            add(&mut draft, times(1, 2, 1)),
+            add(&mut draft, numbers(1, 2, 1)),
             if n < 15 { Err(1) } else { Err(2) }
         );
     }
-    assert_eq!(rt; add(&mut draft, times(1, 2, 2)), Err(2));
-    assert_eq!(rt; add(&mut draft, times(0, 0, 0)), Err(2));
+    assert_eq!(rt; add(&mut draft, numbers(1, 2, 2)), Err(2));
+    assert_eq!(rt; add(&mut draft, numbers(0, 0, 0)), Err(2));
     assert_eq!(rt; draft.rows().len(), 16);
     for (n, row) in draft.rows().iter().enumerate() {
         assert_eq!(rt; row.period as usize, 100 + n);

@@ -1,4 +1,4 @@
-// Flight files: what is read, what is refused and where, and what is written.
+// Flight files: what is read, what is refused and where, what is written, and what is printed.
 use flightfile::file::FlightFile;
 use flightfile::reading::ReadError;
 use flightfile::record::{Record, Request, Times};

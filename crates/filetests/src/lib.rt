@@ -1,4 +1,4 @@
-// Examples of rows, drafts and flight files, at the edge of each refusal.
+// Examples of rows, drafts and flight files, at the edge of each refusal, and of printed records.
 #![tactic(auto)]
 
 #[cfg(test)]

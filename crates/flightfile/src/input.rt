@@ -17,9 +17,9 @@ pub fn fill<R: Read>(input: &mut R, buffer: &mut [u8]) -> io::Result<usize>
     ensures none_lost { OnErr result ((n : ℕ) × Consumes (R.remaining input.old) (R.remaining input.new)
         (take n buffer.new)) }
 {
-    // counted by hand: with `rest = &mut rest[more..]` the proof of `bytes` did not close, since a loop's
-    // invariant cannot name what `rest` has given up; `io::copy` promises no bytes of such a reader, and
-    // `read_to_end` may ask for more memory than the caller wants to spend on the input
+    // counted by hand: with `rest = &mut rest[more..]` (tried) the proof of `bytes` does not close, since a
+    // loop's invariant cannot name what `rest` has given up; of a reader that says nothing of its bytes,
+    // `io::copy` says neither which bytes nor how many; `read_to_end` may ask for more memory than this
     let mut size = 0;
     while size < buffer.len() {
         match input.read(&mut buffer[size..])? {

@@ -66,6 +66,7 @@ impl Output<'_> {
         self.at = end;
     }
 
+    // The bytes of its numbers are named one by one in patterns, as in `Record::split`: the project wants it so.
     fn put(&mut self, entry: Record)
         requires { Fits self.old (encode entry) }
         ensures { Puts self.old (encode entry) self.new }
@@ -111,7 +112,8 @@ impl FlightFile {
         ROW_BYTES * self.rows.rows().len() + REQUEST_BYTES * self.requests.len() + STOP_BYTES
     }
 
-    // Writes the file into the front of `out`, and answers how many bytes it has; or refuses with 17.
+    // Writes the file into the front of `out`, and answers how many bytes it has; or refuses with 17. The
+    // buffer is lent, by whoever may have no heap, so how much of it is used is a number beside it.
     pub fn write(&self, out: &mut [u8]) -> Result<usize, Refusal>
         ensures wrote { Written (bytes (content_of self.now)) out.old result out.new }
         ensures back { WrittenBack (content_of self.now) result out.new }

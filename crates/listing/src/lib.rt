@@ -50,7 +50,8 @@ fn push_lines<T: ToRecord>(text: &mut String, items: &[T]) -> Result<(), AllocEr
     Ok(())
 }
 
-// The lines of a file's records.
+// The lines of a file's records. It walks as `FlightFile::write` does: one walk for both would hand each
+// record to a closure, and the proof of that did not close, since nothing is known of what a closure wrote.
 pub fn list(heap: Global, file: &FlightFile) -> Result<String, fmt::Error>
     ensures { IfOk result (λ s. string_bytes s ≡ record_lines (content_of file.now)) }
 {
@@ -67,6 +68,7 @@ fn is_written_as(heap: Global, file: &FlightFile, input: &[u8]) -> Result<bool, 
 {
     let mut buffer = vec![in heap; 0u8; input.len()]?;
     let out = buffer.as_mut_slice();
+    // n stands beside the buffer, as `write` answers it
     match file.write(out) {
         Ok(n) => Ok(&out[..n] == input),
         Err(_) => Ok(false),

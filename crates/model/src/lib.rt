@@ -1,4 +1,5 @@
-// What everything else is built on: rows and drafts of them, requests, and the product's refusals.
+// What everything else is built on: rows and drafts of them, requests, lists in fixed memory, and the
+// product's refusals.
 #![tactic(auto)]
 
 pub mod draft;

@@ -1,5 +1,5 @@
 -- That the line and the two rules keep what the traits ask of every value. These proofs stand here since the
--- impls cite them; nothing is defined here.
+-- impls cite them, but for `all_below`, which stands as it did and is cited by nothing; nothing is defined here.
 use Rattle.std.specs.Prelude.{◌≡◌, ℕ, suc, ◌<◌, ◌≤◌, List, [], ◌∷◌, length, take, Some, None, Option, nat_lt, slice_index_or, refl, All}
 use Rattle.std.specs.List.{AllByRecursion}
 use Rattle.std.proofs.Common.{arith}

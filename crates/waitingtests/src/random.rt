@@ -22,6 +22,7 @@ struct Model<P> {
     pick: P,
 }
 
+// Who calls the rule requires that it may be called: the check asks that of each such function.
 impl<P: Fn(&[WaitingRequest]) -> Option<usize>> Model<P> {
     fn put(&mut self, request: Request) -> Result<Answer, AllocError> {
         if request.ticks == 0 || request.ticks > 60_000 {
@@ -30,7 +31,7 @@ impl<P: Fn(&[WaitingRequest]) -> Option<usize>> Model<P> {
         if self.line.len() == 64 {
             return Ok(Answer::Put(Err(Refusal::LineFull)));
         }
-        // field by field: the model uses nothing of the code under test
+        // field by field: the model calls no function of the code under test
         self.line.push(WaitingRequest {
             number: request.number,
             arrival: request.arrival,
@@ -74,7 +75,7 @@ impl<P: Fn(&[WaitingRequest]) -> Option<usize>> Model<P> {
 }
 
 // The first place with the fewest ticks left: the least number first, and then where it stands.
-fn shortest(line: &[WaitingRequest]) -> Option<usize> {
+fn fewest_left(line: &[WaitingRequest]) -> Option<usize> {
     let fewest = line.iter().map(|request| request.left).min()?;
     line.iter().position(|request| request.left == fewest)
 }
@@ -176,7 +177,7 @@ fn a_random_run(rt: HostRuntime) -> Result<(), Fail> {
     agrees(&rt, heap, &mut OrderBy::new(FirstCome), |line| {
         (!line.is_empty()).then_some(0)
     })?;
-    agrees(&rt, heap, &mut OrderBy::new(ShortestLeft), shortest)?;
+    agrees(&rt, heap, &mut OrderBy::new(ShortestLeft), fewest_left)?;
     agrees(&rt, heap, &mut OrderBy::new(LastCome), |line| {
         line.len().checked_sub(1)
     })

@@ -22,6 +22,7 @@ impl Draft {
     pub fn add(&mut self, times: Times) -> Result<(), Refusal>
         ensures { Added (rows_of self.old) times result (rows_of self.new) }
     {
+        // before the numbers are looked at: 2 comes before 1
         if self.rows.is_full() {
             return Err(Refusal::SeventeenthRow);
         }
