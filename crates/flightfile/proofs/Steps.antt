@@ -1,6 +1,5 @@
 -- One step of the reader: a record taken in makes the run seen longer, and what is wrong with one is the answer.
 use Rattle.std.proofs.Common.{◌≡◌, ℕ, ◌-◌, ◌≤◌, List, ◌++◌, length, Ok, Err, vec_capacity, Result, MatchResult, IsErrAnd, Bor, sym, refl, ap, ◌∙◌, subst, inl, inr, append_assoc, arith, length-append}
-use Rattle.model.specs.declared.refusal.PlacedRefusal.{PlacedRefusal}
 use Rattle.model.specs.declared.refusal.Refusal.{Refusal}
 use Rattle.model.specs.Refusals.{refusal_at}
 use Rattle.flightfile.specs.declared.file.FlightFile.{FlightFile}
@@ -21,11 +20,11 @@ module _ (bs : List ℕ) (short : length bs ≤ 65536) (old : Reader) (rest : Li
   front = record { lawful = old.lawful; split = split; ends = omega (arith, ap length split, length-append (bytes (seen old)) rest) }
 
   -- No record was split off; what came of that, with its place, is the answer to the whole input.
-  pub not_split : (r : Result (Record × Bor (List ℕ)) Refusal) (placed : Result (Record × Bor (List ℕ)) PlacedRefusal) (p : PlacedRefusal) {gives : Refusal → PlacedRefusal → Type 0} → placed ≡ Err p → MatchResult r (λ x. placed ≡ Ok x) (λ e. IsErrAnd placed (gives e)) → ((e : Refusal) (q : PlacedRefusal) → gives e q → q ≡ refusal_at e place) → Split rest r → Refuses bs p.refusal p.place
-  not_split (Ok x) placed p was m is s = let z : ◌≡◌ {A = ℕ} 0 1 = cc in absurd (omega arith)
-  not_split (Err e) placed p {gives} was m is s =
-      let same = is e p (subst (λ (r : Result (Record × Bor (List ℕ)) PlacedRefusal). IsErrAnd r (gives e)) was m) in
-      subst (λ (q : PlacedRefusal). Refuses bs q.refusal q.place) (sym same) (inr (short, (seen old, rest, front, inl (inl s))))
+  pub not_split : (room : ℕ) (r : Result (Record × Bor (List ℕ)) Refusal) (placed : Result (Record × Bor (List ℕ)) ReadError) (p : ReadError) {gives : Refusal → ReadError → Type 0} → placed ≡ Err p → MatchResult r (λ x. placed ≡ Ok x) (λ e. IsErrAnd placed (gives e)) → ((e : Refusal) (q : ReadError) → gives e q → q ≡ ReadError.Refused (refusal_at e place)) → Split rest r → Reads room bs (Err p)
+  not_split room (Ok x) placed p was m is s = let z : ◌≡◌ {A = ℕ} 0 1 = cc in absurd (omega arith)
+  not_split room (Err e) placed p {gives} was m is s =
+      let same = is e p (subst (λ (r : Result (Record × Bor (List ℕ)) ReadError). IsErrAnd r (gives e)) was m) in
+      subst (λ (q : ReadError). Reads room bs (Err q)) (sym same) (inr (short, (seen old, rest, front, inl (inl s))))
 
   module _ (x : Record) (after : List ℕ) (b : Begins rest x after) where
     longer : Allowed (seen old) x → bs ≡ bytes (extend (seen old) x) ++ after

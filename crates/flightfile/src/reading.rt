@@ -53,7 +53,9 @@ impl FlightFile {
         let mut rest = input;
         while !rest.is_empty() {
             let place = input.len() - rest.len();
-            let (record, after) = Record::split(rest).map_err(|refusal| refusal.at(place))?;
+            // a `ReadError` in the closure and not by `?`: with a `PlacedRefusal` the compiler moves each record
+            // over the stack, for up to half more time
+            let (record, after) = Record::split(rest).map_err(|e| ReadError::from(e.at(place)))?;
             reader.admit(record, place)?;
             rest = after;
         }

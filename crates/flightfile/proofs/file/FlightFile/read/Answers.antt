@@ -7,7 +7,7 @@ use Rattle.flightfile.proofs.file.FlightFile.read.Goals.{In_err-admit}
 pub returns-in_err-record-clause-answer : goal.returns-in_err-record-clause-answer
 returns-in_err-record-clause-answer c =
     let p = err_from_is_err_and c.from_residual.result c.from_residual.ensures.1 in
-    rw (p.1, p.2) (not_split c.args.input.now (omega arith) c.loop-rest.reader c.loop-rest.rest.now c.loop-rest.invariant.0 _ refl c.split.result c.map_err.result _ c.in_err-record.was c.map_err.ensures.cases (λ e q h. search rules) c.split.ensures)
+    rw (p.1, p.2) (not_split c.args.input.now (omega arith) c.loop-rest.reader c.loop-rest.rest.now c.loop-rest.invariant.0 _ refl (vec_capacity c.args.room) c.split.result c.map_err.result _ c.in_err-record.was c.map_err.ensures.cases (λ e q h. search rules) c.split.ensures)
 
 -- What is wrong with a record is the answer to the whole input.
 pub returns-in_err-admit-clause-answer : goal.returns-in_err-admit-clause-answer
