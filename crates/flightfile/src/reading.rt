@@ -54,7 +54,7 @@ impl FlightFile {
         while !rest.is_empty() {
             let place = input.len() - rest.len();
             // a `ReadError` in the closure and not by `?`: with a `PlacedRefusal` the compiler moves each record
-            // over the stack, for up to half more time
+            // over the stack, and a read takes up to twice as long
             let (record, after) = Record::split(rest).map_err(|e| ReadError::from(e.at(place)))?;
             reader.admit(record, place)?;
             rest = after;
