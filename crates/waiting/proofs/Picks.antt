@@ -1,5 +1,5 @@
 -- The place that shortest-left order picks is the one that its words describe, and the only one.
-use Rattle.std.proofs.Common.{◌≡◌, ℕ, zero, suc, ◌+◌, ◌<◌, ◌≤◌, cond, Bool, ltb, List, [], ◌∷◌, map, length, get_or, Some, None, Option, sym, refl, ap, ◌∙◌, subst, arith, Bor}
+use Rattle.std.proofs.Common.{◌≡◌, ℕ, zero, suc, ◌+◌, ◌<◌, ◌≤◌, cond, Bool, ltb, List, [], ◌∷◌, map, length, get_or, drop, true, false, Some, None, Option, sym, refl, ap, ◌∙◌, subst, arith, Bor}
 use denote.Param.Members.{Mut}
 use Rattle.std.specs.Cmp.{IsStrictWeakOrder}
 use Rattle.std.specs.Fn.{CalledAt}
@@ -58,26 +58,59 @@ shortest_unique line (Some a) (Some b) p o = ap Some (least_unique line a b p o)
 pub shortest_from : (line : List WaitingRequest) (place : Option ℕ) → Shortest line place → place ≡ shortest line
 shortest_from line place p = shortest_unique line place (shortest line) p (shortest_is line)
 
--- `min_by_key`, where each call gives the number `key` of what v reads of an item
-module _ {A B F : Type 0} (v : A → B) (g : Mut F (Bor A × Unit {0}) ℕ) (key : B → ℕ) (f : F) (calls : (x : A) (n : ℕ) (q : F) → CalledAt g f x n q → (q ≡ f) × (n ≡ key (v x))) where
-  abbrev beats : B → B → Bool
-  beats a b = ltb (key a) (key b)
+-- An item of a numbered list.
+abbrev Item : Type 0
+Item = ℕ × Bor WaitingRequest
 
-  keeps : (a b : A) (ka kb : ℕ) (o : Ordering) → nat_cmp ka kb ≡ o → ka ≡ key (v a) → kb ≡ key (v b) → (min_by_ordering o ka kb ≡ key (v (min_by_ordering o a b))) × (v (min_by_ordering o a b) ≡ cond (beats (v b) (v a)) (v b) (v a))
-  keeps a b ka kb Less e ea eb = (ea, grind (arith, nat_tests, ranked ka kb Less (sym e)))
-  keeps a b ka kb Equal e ea eb = (ea, grind (arith, nat_tests, ranked ka kb Equal (sym e)))
-  keeps a b ka kb Greater e ea eb = (eb, grind (arith, nat_tests, ranked ka kb Greater (sym e)))
-
-  least_folds : (xs : List A) (p q : (F × ℕ) × A) → p.0.0 ≡ f → p.0.1 ≡ key (v p.1) → FoldsTo (KeyTurn min_by_ordering min_by_ordering g nat_cmp) p xs q → v q.1 ≡ best_of beats (v p.1) (map v xs)
-  least_folds [] p q same is c = ap (λ w. v w.1) (sym c)
-  least_folds (x ∷ xs) p q same is (j, (n, o, called, cmp, key-is, item-is), rest) =
-      let m = calls x n j.0.0 (subst (λ w. CalledAt g w x n j.0.0) same called) in
-      let h = keeps p.1 x p.0.1 n o cmp is m.1 in
-      least_folds xs j q m.0 (key-is ∙ h.0 ∙ ap (λ w. key (v w)) (sym item-is)) rest ∙ ap (λ w. best_of beats w (map v xs)) (ap v item-is ∙ h.1)
-
--- What v reads of an item of a numbered list.
+-- What is read of it.
 abbrev pub numbered : ℕ × Bor WaitingRequest → ℕ × WaitingRequest
 numbered p = (p.0, p.1.now)
+
+abbrev fewer : ℕ × WaitingRequest → ℕ × WaitingRequest → Bool
+fewer a b = ltb a.1.left b.1.left
+
+-- The first item of a numbered list has the first number, and the others are numbered on.
+tail_numbered : (k : ℕ) (x : Item) (xs : List Item) (line : List WaitingRequest) → map numbered (x ∷ xs) ≡ enumerate_from k line → (x.0 ≡ k) × (rest : List WaitingRequest) × (map numbered xs ≡ enumerate_from (k + 1) rest)
+tail_numbered k x xs [] e = absurd (omega (arith, ap length e))
+tail_numbered k x xs (q ∷ line) e = (ap (λ (l : List (ℕ × WaitingRequest)). (get_or l 0 (0, unused)).0) e, line, ap (drop 1) e)
+
+same_test : (a b c d : ℕ) → (a < b → c < d) → (c < d → a < b) → ltb a b ≡ ltb c d
+same_test a b c d to from = go (ltb a b) (ltb c d) refl refl where
+  go : (s t : Bool) → ltb a b ≡ s → ltb c d ≡ t → s ≡ t
+  go true true _ _ = refl
+  go false false _ _ = refl
+  go true false e h = absurd (omega (arith, to (ltb-true _ _ e), ltb-false _ _ h))
+  go false true e h = absurd (omega (arith, from (ltb-true _ _ h), ltb-false _ _ e))
+
+-- What is kept of two items by the order of their keys is what is kept by the ticks left.
+keeps : (a b : Item) (ka kb : ℕ) (o : Ordering) → nat_cmp ka kb ≡ o → ltb kb ka ≡ ltb b.1.now.left a.1.now.left → numbered (min_by_ordering o a b) ≡ cond (fewer (numbered b) (numbered a)) (numbered b) (numbered a)
+keeps a b ka kb Less e same = grind (arith, nat_tests, ranked ka kb Less (sym e))
+keeps a b ka kb Equal e same = grind (arith, nat_tests, ranked ka kb Equal (sym e))
+keeps a b ka kb Greater e same = grind (arith, nat_tests, ranked ka kb Greater (sym e))
+
+place_grows : (o : Ordering) (a b : Item) (k : ℕ) → a.0 < k → b.0 ≡ k → (min_by_ordering o a b).0 < k + 1
+place_grows Less a b k l e = omega (arith, l)
+place_grows Equal a b k l e = omega (arith, l)
+place_grows Greater a b k l e = omega (arith, e)
+
+-- `min_by_key` over a numbered list, where the later of two items has the smaller key exactly if it has fewer ticks left.
+module _ {F : Type 0} (g : Mut F (Bor Item × Unit {0}) ℕ) (f : F) (stays : (x : Item) (n : ℕ) (q : F) → CalledAt g f x n q → q ≡ f) (keyed : (x y : Item) (n m : ℕ) (q r : F) → x.0 < y.0 → CalledAt g f x n q → CalledAt g f y m r → (m < n → y.1.now.left < x.1.now.left) × (y.1.now.left < x.1.now.left → m < n)) where
+  remembers : (o : Ordering) (a b : Item) (ka kb : ℕ) (s t : F) → CalledAt g f a ka s → CalledAt g f b kb t → (w : F) × CalledAt g f (min_by_ordering o a b) (min_by_ordering o ka kb) w
+  remembers Less a b ka kb s t ca cb = (s, ca)
+  remembers Equal a b ka kb s t ca cb = (s, ca)
+  remembers Greater a b ka kb s t ca cb = (t, cb)
+
+  least_folds : (xs : List Item) (k : ℕ) (line : List WaitingRequest) (p q : (F × ℕ) × Item) (w : F) → map numbered xs ≡ enumerate_from k line → p.1.0 < k → p.0.0 ≡ f → CalledAt g f p.1 p.0.1 w → FoldsTo (KeyTurn min_by_ordering min_by_ordering g nat_cmp) p xs q → numbered q.1 ≡ best_of fewer (numbered p.1) (map numbered xs)
+  least_folds [] k line p q w e l same known c = ap (λ z. numbered z.1) (sym c)
+  least_folds (x ∷ xs) k line p q w e l same known (j, (n, o, called, cmp, key-is, item-is), rest) =
+      let t = tail_numbered k x xs line e in
+      let turn = subst (λ z. CalledAt g z x n j.0.0) same called in
+      let r = keyed p.1 x p.0.1 n w j.0.0 (omega (arith, l, t.0)) known turn in
+      let h = keeps p.1 x p.0.1 n o cmp (same_test n p.0.1 x.1.now.left p.1.1.now.left r.0 r.1) in
+      let b = remembers o p.1 x p.0.1 n w j.0.0 known turn in
+      let kept = subst (λ z. CalledAt g f z j.0.1 b.0) (sym item-is) (subst (λ z. CalledAt g f (min_by_ordering o p.1 x) z b.0) (sym key-is) b.1) in
+      let below = subst (λ (z : Item). z.0 < k + 1) (sym item-is) (place_grows o p.1 x k l t.0) in
+      least_folds xs (k + 1) t.1 j q b.0 t.2 below (stays x n j.0.0 turn) kept rest ∙ ap (λ z. best_of fewer z (map numbered xs)) (ap numbered item-is ∙ h)
 
 ranks : IsStrictWeakOrder (λ (a b : ℕ × WaitingRequest). ltb a.1.left b.1.left)
 ranks = IsStrictWeakOrder-by_number (λ a. a.1.left)
@@ -101,15 +134,15 @@ least_numbered line best first others all is =
     }
     )
 
-module _ {S F : Type 0} {steps : S → Option (ℕ × Bor WaitingRequest) → S → Type 0} {g : Mut F (Bor (ℕ × Bor WaitingRequest) × Unit {0}) ℕ} {s : S} {f : F} (line : List WaitingRequest) where
-  pub picks_shortest : (r : Option (ℕ × Bor WaitingRequest)) (place : Option ℕ) → place ≡ option_map (λ p. p.0) r → PicksMinByKey steps g nat_cmp s f r → YieldsList steps numbered s (enumerate_from 0 line) → ((x : ℕ × Bor WaitingRequest) (n : ℕ) (q : F) → CalledAt g f x n q → (q ≡ f) × (n ≡ x.1.now.left)) → Shortest line place
-  picks_shortest None place is d e calls = subst (Shortest line) (sym is) (nobody line (items_from_drains [] (d.1.0, d.1.1, λ _. (d.0, d.1.2)) e)) where
+module _ {S F : Type 0} {steps : S → Option Item → S → Type 0} {g : Mut F (Bor Item × Unit {0}) ℕ} {s : S} {f : F} (line : List WaitingRequest) where
+  pub picks_shortest : (r : Option Item) (place : Option ℕ) → place ≡ option_map (λ p. p.0) r → PicksMinByKey steps g nat_cmp s f r → YieldsList steps numbered s (enumerate_from 0 line) → ((x : Item) (n : ℕ) (q : F) → CalledAt g f x n q → q ≡ f) → ((x y : Item) (n m : ℕ) (q r : F) → x.0 < y.0 → CalledAt g f x n q → CalledAt g f y m r → (m < n → y.1.now.left < x.1.now.left) × (y.1.now.left < x.1.now.left → m < n)) → Shortest line place
+  picks_shortest None place is d e stays keyed = subst (Shortest line) (sym is) (nobody line (items_from_drains [] (d.1.0, d.1.1, λ _. (d.0, d.1.2)) e)) where
     nobody : (line : List WaitingRequest) → map numbered [] ≡ enumerate_from 0 line → line ≡ []
     nobody [] h = refl
     nobody (q ∷ line) h = cc
-  picks_shortest (Some y) place is (x, xs, k, f', q, d, called, folds) e calls =
-      let start = calls x k f' called in
+  picks_shortest (Some y) place is (x, xs, k, f', q, d, called, folds) e stays keyed =
       let all : map numbered (x ∷ xs) ≡ enumerate_from 0 line = items_from_drains (x ∷ xs) (d.1.0, d.1.1, λ _. (d.0, d.1.2)) e in
+      let t = tail_numbered 0 x xs line all in
       subst (Shortest line) (sym is) (
-      least_numbered line (numbered y) (numbered x) (map numbered xs) all (least_folds numbered g (λ a. a.1.left) f calls xs ((f', k), x) (q, y) start.0 start.1 folds)
+      least_numbered line (numbered y) (numbered x) (map numbered xs) all (least_folds g f stays keyed xs 1 t.1 ((f', k), x) (q, y) f' t.2 (omega (arith, t.0)) (stays x k f' called) called folds)
       )
